@@ -1,0 +1,5 @@
+pub mod Numbers
+pub mod Makers
+pub mod Tests
+pub mod Laws
+pub mod Words

@@ -1,0 +1,4 @@
+pub mod Moved
+pub mod Permuted
+pub mod Ordered
+pub mod Turned

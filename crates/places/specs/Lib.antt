@@ -1,0 +1,4 @@
+pub mod Places
+pub mod Orders
+pub mod Turn
+pub mod Laws
