@@ -26,3 +26,8 @@ tested (t ∷ ts) = cond (t .holds) (Err (t .fault)) (tested ts)
 -- what a buffer holds after a call: `new` where it was accepted, as found where it was declined
 abbrev pub afterCall : {X : Type 0} → Answer → X → X → X
 afterCall r new found = cond (isOk r) new found
+
+-- two calls, the second made only where the first was accepted
+abbrev pub andThen : Answer → Answer → Answer
+andThen (Ok u) second = second
+andThen (Err f) second = Err f

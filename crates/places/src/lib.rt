@@ -2,17 +2,15 @@
 ghost use Rattle.places.specs.Laws.{Moving, Permuting, Transposing, Turning};
 
 /// The laws of lists of places and of orders.
-pub fn orders_stand<T>() -> u8
+pub fn orders_stand<T>()
     ensures moving { λ _. ⌜ Moving T ⌝ }
     ensures permuting { λ _. ⌜ Permuting ⌝ }
 {
-    0
 }
 
 /// The laws of the turn.
-pub fn turns_stand<T>() -> u8
+pub fn turns_stand<T>()
     ensures turning { λ _. ⌜ Turning ⌝ }
     ensures transposing { λ _. ⌜ Transposing T ⌝ }
 {
-    0
 }

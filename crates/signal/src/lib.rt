@@ -4,7 +4,7 @@ ghost use Rattle.fault.specs.Makers.{plain};
 ghost use Rattle.fault.specs.Tests.{afterCall};
 ghost use Rattle.fault.specs.declared.Refusal.the-variants.{NoShape};
 ghost use Rattle.signal.specs.Laws.{Restored, Sent, Shapes};
-ghost use Rattle.signal.specs.Pages.{deinterleaved, fits, flipped, interleaved, shapeOf};
+ghost use Rattle.signal.specs.Pages.{deinterleaved, fits, interleaved, shapeOf};
 ghost use Rattle.std.specs.Options.{okOr};
 ghost use Rattle.std.specs.Results.{isOk};
 ghost use lib.ListN.{length};
@@ -41,7 +41,7 @@ fn page_shape(name: &str) -> Result<Shape, Fault>
 pub fn interleave<T: Copy>(name: &str, page: &[T], output: &mut [T]) -> Result<(), Fault>
     ensures answer { λ r. ⌜ r ≡ fits (shapeOf (now (name .entry))) (length (now (page .entry))) (length (now (output .entry))) ⌝ }
     ensures places { λ r. ⌜ now (output .exit) ≡ afterCall r (interleaved (now (name .entry)) (now (page .entry))) (now (output .entry)) ⌝ }
-    ensures sent { λ r. ⌜ (isOk r ≡ true → Sent (now (name .entry)) (now (page .entry)) (now (output .exit))) ⌝ }
+    ensures symbols { λ r. ⌜ (isOk r ≡ true → Sent (now (name .entry)) (now (page .entry)) (now (output .exit))) ⌝ }
     ensures restored { λ r. ⌜ (isOk r ≡ true → deinterleaved (now (name .entry)) (now (output .exit)) ≡ now (page .entry)) ⌝ }
 {
     let shape = page_shape(name)?;
@@ -51,9 +51,9 @@ pub fn interleave<T: Copy>(name: &str, page: &[T], output: &mut [T]) -> Result<(
 
 /// Puts a page that was sent into order again.
 pub fn deinterleave<T: Copy>(name: &str, sent: &[T], output: &mut [T]) -> Result<(), Fault>
-    ensures answer { λ r. ⌜ r ≡ fits (flipped (shapeOf (now (name .entry)))) (length (now (sent .entry))) (length (now (output .entry))) ⌝ }
+    ensures answer { λ r. ⌜ r ≡ fits (shapeOf (now (name .entry))) (length (now (sent .entry))) (length (now (output .entry))) ⌝ }
     ensures places { λ r. ⌜ now (output .exit) ≡ afterCall r (deinterleaved (now (name .entry)) (now (sent .entry))) (now (output .entry)) ⌝ }
-    ensures sent { λ r. ⌜ (isOk r ≡ true → Sent (now (name .entry)) (now (output .exit)) (now (sent .entry))) ⌝ }
+    ensures symbols { λ r. ⌜ (isOk r ≡ true → Sent (now (name .entry)) (now (output .exit)) (now (sent .entry))) ⌝ }
     ensures restored { λ r. ⌜ (isOk r ≡ true → (page : List T) → length page ≡ length (now (sent .entry)) → now (sent .entry) ≡ interleaved (now (name .entry)) page → now (output .exit) ≡ page) ⌝ }
 {
     let shape = page_shape(name)?;
@@ -62,9 +62,8 @@ pub fn deinterleave<T: Copy>(name: &str, sent: &[T], output: &mut [T]) -> Result
 }
 
 /// The laws of pages.
-pub fn pages_stand<T>() -> u8
+pub fn pages_stand<T>()
     ensures shapes { λ _. ⌜ Shapes ⌝ }
     ensures restored { λ _. ⌜ Restored T ⌝ }
 {
-    0
 }

@@ -2,6 +2,7 @@
 use mathlib.Core.Path.{_≡_, sym}
 use mathlib.Core.Bool.{true}
 use Prim.Native.Nat.{ℕ, _*_, _^_, _<_}
+use native.Mathlib.Nat.{mul-comm}
 use native.Mathlib.Omega.{arith}
 use Rattle.std.specs.declared.result.Result.the-variants.{Ok}
 use Rattle.std.proofs.shelf.Tests.{leb-false, not-false, eqb-true}
@@ -25,3 +26,8 @@ fitting w h i o e =
       input = eqb-true _ _ (not-false _ (none 1 (omega arith)));
       output = eqb-true _ _ (not-false _ (none 2 (omega arith)));
     }
+
+-- the two sides may be exchanged: only their product counts
+pub transposable-flipped : (w h i o : ℕ) → transposable h w i o ≡ transposable w h i o
+unfolding transposable
+transposable-flipped w h i o = rw (mul-comm h w)

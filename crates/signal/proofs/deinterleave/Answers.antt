@@ -1,24 +1,21 @@
-use mathlib.Core.Path.{_≡_, sym, ap, _∙_}
-use native.Mathlib.Nat.{mul-comm}
+use borrow.Author.Needs.{needs}
+use mathlib.Core.Path.{refl}
 use lib.ListN.{length}
-use Rattle.std.specs.declared.option.Option.the-variants.{Some}
-use Rattle.transpose.proofs.Accepts.{fitting}
-use Rattle.signal.specs.Pages.{shapeOf, flipped, fits, deinterleaved}
-use Rattle.signal.proofs.Restores.{deinterleaved-is, sent-first, sent-by, shape-found}
+use Rattle.transpose.proofs.Accepts.{transposable-flipped}
+use Rattle.signal.proofs.Restores.{shape-found, ordering}
 use Rattle.signal.proofs.deinterleave.Needs as need
+
+-- a refusal of `transpose` is that of the page, whose sides may be exchanged
+pub returns-in-Break-transpose : need.returns-in-Break-transpose
+returns-in-Break-transpose g c =
+    let s = c .in-Continue-shape .shape in
+    let t = transposable-flipped (s .width) (s .height) (length (c .args .sent .now)) (length (c .args .output .now)) in
+    search needs
 
 pub returns : need.returns
 returns g c =
-    let name = c .args .name .now in
-    let sent = c .args .sent .now in
-    let s = c .in-Continue-shape .shape in
-    let e : shapeOf (c .args .name .now) ≡ Some (c .in-Continue-shape .shape) = shape-found _ _ _ (c .in-Continue-shape .ensures tt) in
+    let e = shape-found _ _ _ (c .in-Continue-shape .ensures tt) in
     let move = c .in-Continue-transpose .ensures tt in
-    let long = fitting _ _ _ _ (move .answer) .input ∙ mul-comm (s .height) (s .width) in
-    let is = move .places ∙ sym (deinterleaved-is name s e sent) in
-    record {
-      answer = move .answer ∙ sym (ap (λ o. fits (flipped o) (length sent) (length (c .args .output .now))) e);
-      places = is;
-      sent = λ ok. sent-by name s e _ sent (λ x y d a b. sym (move .cells ok y x d b a));
-      restored = λ _ page m f. is ∙ ap (deinterleaved name) f ∙ sent-first name s page e (m ∙ long);
-    }
+    let all = ordering (c .args .name .now) (c .in-Continue-shape .shape) e (c .args .sent .now) (c .transpose .last .output)
+    (length (c .args .output .now)) (move .answer) (move .places) (move .cells refl) in
+    record { answer = all .answer; places = all .places; symbols = λ _. all .symbols; restored = λ _. all .restored }
