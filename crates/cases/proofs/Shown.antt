@@ -27,8 +27,12 @@ module _ (X : Type 0) where
   -- the symbol of row y and column x
   sent : (name : List ℕ) (s : Shape) → shapeOf name ≡ Some s → (x y : ℕ) → x < s .width → y < s .height →
       Holds X (sends name (y * s .width + x) (x * s .height + y))
-  sent name s e x y a b = (s, e, λ page d long.
-    ap (λ l. getD l (x * s .height + y) d) (interleaved-is name s e page) ∙ transposed-cells (s .width) (s .height) page long x y d a b)
+  sent name s e x y a b = (
+    s,
+    e,
+    λ page d long.
+        ap (λ l. getD l (x * s .height + y) d) (interleaved-is name s e page) ∙ transposed-cells (s .width) (s .height) page long x y d a b,
+  )
 
   pub shown : All (Holds X) cases
   shown = (

@@ -4,5 +4,4 @@ ghost use Rattle.cases.specs.Cases.{All, Holds, cases};
 /// Every worked case is as the rules have it, at every element type.
 pub fn worked_cases<T>()
     ensures { λ _. ⌜ All (Holds T) cases ⌝ }
-{
-}
+{}

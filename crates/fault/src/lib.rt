@@ -9,6 +9,7 @@ ghost use mathlib.Core.Path.{_≡_};
 mod words;
 
 pub use words::FaultDisplay;
+pub use words::FaultError;
 pub use words::RefusalDisplay;
 
 /// The ways to decline, each with its number.
@@ -95,10 +96,8 @@ impl Fault {
         ensures { λ r. ⌜ r ≡ atRecord refusal «record» ⌝ }
     {
         Fault {
-            refusal,
             record,
-            step: 0,
-            cause: None,
+            ..Fault::new(refusal)
         }
     }
 
@@ -107,10 +106,9 @@ impl Fault {
         ensures { λ r. ⌜ r ≡ inStep «record» step below ⌝ }
     {
         Fault {
-            refusal: Refusal::StepRefused,
-            record,
             step,
             cause: Some(below.refusal),
+            ..Fault::at_record(Refusal::StepRefused, record)
         }
     }
 
@@ -175,5 +173,4 @@ impl Fault {
 pub fn refusals_stand()
     ensures numbered { λ _. ⌜ Numbered ⌝ }
     ensures in_order { λ _. ⌜ InOrder ⌝ }
-{
-}
+{}

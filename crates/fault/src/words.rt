@@ -3,7 +3,9 @@ ghost use Rattle.fault.specs.Words.{because, line, position, reason, wordsOf};
 ghost use Rattle.std.specs.declared.option.Option.the-variants.{Some};
 ghost use mathlib.Core.Path.{_≡_};
 use crate::Fault;
+use crate::FaultDebug;
 use crate::Refusal;
+use std::error::Error;
 use std::fmt;
 
 /// What was refused.
@@ -94,3 +96,5 @@ pub impl fmt::Display for Fault as FaultDisplay {
         write!(f, "{position}{refusal}{because}")
     }
 }
+
+pub impl Error for Fault as FaultError {}

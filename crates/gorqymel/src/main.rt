@@ -25,10 +25,18 @@ fn show_places(rt: &LibcRuntime, sent: &[u32]) -> io::Result<()> {
 }
 
 /// Says how many of `n` elements are where they were after a trip.
-fn show_trip(rt: &LibcRuntime, answer: Result<usize, Fault>, n: usize, what: &str) -> io::Result<()> {
+fn show_trip(
+    rt: &LibcRuntime,
+    answer: Result<usize, Fault>,
+    n: usize,
+    what: &str,
+) -> io::Result<()> {
     match answer {
         Ok(count) if count == n => println!(rt, "  taken back: all {n} {what} are where they were"),
-        Ok(count) => println!(rt, "  taken back: only the first {count} {what} are where they were"),
+        Ok(count) => println!(
+            rt,
+            "  taken back: only the first {count} {what} are where they were"
+        ),
         Err(fault) => println!(rt, "  {fault}"),
     }
 }
@@ -81,7 +89,10 @@ fn show_refusal(rt: &LibcRuntime, name: &str) -> io::Result<()> {
 }
 
 fn main(rt: LibcRuntime) -> io::Result<()> {
-    println!(rt, "Symbol k of a page is 1 where k has an odd number of one bits, else 0.")?;
+    println!(
+        rt,
+        "Symbol k of a page is 1 where k has an odd number of one bits, else 0."
+    )?;
     show_page::<240>(&rt, "I/NAV")?;
     show_samples::<240>(&rt, "I/NAV")?;
     show_page::<488>(&rt, "F/NAV")?;

@@ -5,12 +5,10 @@ ghost use Rattle.places.specs.Laws.{Moving, Permuting, Transposing, Turning};
 pub fn orders_stand<T>()
     ensures moving { λ _. ⌜ Moving T ⌝ }
     ensures permuting { λ _. ⌜ Permuting ⌝ }
-{
-}
+{}
 
 /// The laws of the turn.
 pub fn turns_stand<T>()
     ensures turning { λ _. ⌜ Turning ⌝ }
     ensures transposing { λ _. ⌜ Transposing T ⌝ }
-{
-}
+{}

@@ -23,9 +23,18 @@ pub fn shape_of(name: &str) -> Option<Shape>
     ensures { λ r. ⌜ r ≡ shapeOf (now (name .entry)) ⌝ }
 {
     match name {
-        "F/NAV" => Some(Shape { width: 8, height: 61 }),
-        "I/NAV" => Some(Shape { width: 8, height: 30 }),
-        "L1C" => Some(Shape { width: 46, height: 38 }),
+        "F/NAV" => Some(Shape {
+            width: 8,
+            height: 61,
+        }),
+        "I/NAV" => Some(Shape {
+            width: 8,
+            height: 30,
+        }),
+        "L1C" => Some(Shape {
+            width: 46,
+            height: 38,
+        }),
         _ => None,
     }
 }
@@ -65,5 +74,4 @@ pub fn deinterleave<T: Copy>(name: &str, sent: &[T], output: &mut [T]) -> Result
 pub fn pages_stand<T>()
     ensures shapes { λ _. ⌜ Shapes ⌝ }
     ensures restored { λ _. ⌜ Restored T ⌝ }
-{
-}
+{}
