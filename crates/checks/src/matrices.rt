@@ -40,14 +40,17 @@ fn answers() -> Result<(), Fail> {
     Ok(())
 }
 
+/// Width, height, and the refusal's number for an input of 6 and an output of 5.
 #[test]
 fn refused_and_unchanged() -> Result<(), Fail> {
-    let mut output = *b".....";
-    match transpose(b"abcdef", &mut output, 2, 3) {
-        Ok(()) => Err(Fail::new("accepted")),
-        Err(fault) => {
-            check_eq(fault.number(), 3)?;
-            check_eq(output, *b".....")
+    let cases = [(4294967296, 4294967296, 1), (5, 1, 2), (2, 3, 3)];
+    for (width, height, number) in cases {
+        let mut output = *b".....";
+        match transpose(b"abcdef", &mut output, width, height) {
+            Ok(()) => return Err(Fail::new("accepted")),
+            Err(fault) => check_eq(fault.number(), number)?,
         }
+        check_eq(output, *b".....")?;
     }
+    Ok(())
 }

@@ -39,6 +39,7 @@ pub fn unmoved<R: Rule>(a: &[R::Item], b: &[R::Item]) -> usize
     ensures within { λ r. ⌜ (r ≤ length (now (a .entry))) × (r ≤ length (now (b .entry))) ⌝ }
     ensures same { λ r. ⌜ ((k : ℕ) (d : R·Item) → k < r → getD (now (a .entry)) k d ≡ getD (now (b .entry)) k d) ⌝ }
     ensures stops { λ r. ⌜ ((d : R·Item) → r < length (now (a .entry)) → r < length (now (b .entry)) → getD (now (a .entry)) r d ≡ getD (now (b .entry)) r d → ⊥) ⌝ }
+    ensures all { λ r. ⌜ (now (a .entry) ≡ now (b .entry) → r ≡ length (now (a .entry))) ⌝ }
 {
     let both = a.len().min(b.len());
     for k in 0..both {

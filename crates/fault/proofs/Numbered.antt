@@ -49,7 +49,7 @@ known FittedLength = record { low = lit≤ tt; high = lit≤ tt; back = refl }
 known NoShape = record { low = lit≤ tt; high = lit≤ tt; back = refl }
 known TableBytes = record { low = lit≤ tt; high = lit≤ tt; back = refl }
 
-pub apart : (r s : Refusal) → numberOf r ≡ numberOf s → r ≡ s
+apart : (r s : Refusal) → numberOf r ≡ numberOf s → r ≡ s
 apart r s e = sym (known r .back) ∙ ap named e ∙ known s .back
 
 -- entry k of the list has the number k + 1: their numbers are 1 to 17
@@ -72,5 +72,5 @@ numbered = record {
   within = λ r. (known r .low, known r .high);
   apart = apart;
   every = λ n a b. (named n, listed (n - 1) (omega arith) ∙ (omega arith));
-  whole = λ f g e. same-fault f g (apart _ _ (ap (λ x. x .number) e)) (ap (λ x. x .place) e) (ap (λ x. x .turn) e) (causes-apart _ _ (ap (λ x. x .reason) e));
+  whole = λ f g e. same-fault f g (apart _ _ (ap (λ x. x .number) e)) (ap (λ x. x .recordNo) e) (ap (λ x. x .stepNo) e) (causes-apart _ _ (ap (λ x. x .causeNo) e));
 }

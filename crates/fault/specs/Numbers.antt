@@ -40,9 +40,9 @@ causeOf (Some below) = numberOf below
 pub record Numbers : Type 0 where
   pub number : ℕ
   pub layer : ℕ
-  pub place : ℕ
-  pub turn : ℕ
-  pub reason : ℕ
+  pub recordNo : ℕ
+  pub stepNo : ℕ
+  pub causeNo : ℕ
 
 abbrev pub numbers : Fault → Numbers
-numbers f = record { number = numberOf (f .refusal); layer = layerOf (numberOf (f .refusal)); place = f .«record»; turn = f .step; reason = causeOf (f .cause) }
+numbers f = record { number = numberOf (f .refusal); layer = layerOf (numberOf (f .refusal)); recordNo = f .«record»; stepNo = f .step; causeNo = causeOf (f .cause) }

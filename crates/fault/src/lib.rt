@@ -3,7 +3,7 @@ ghost use Prim.Native.Nat.{ℕ};
 ghost use Rattle.fault.specs.Laws.{InOrder, Numbered};
 ghost use Rattle.fault.specs.Makers.{atRecord, inStep, plain};
 ghost use Rattle.fault.specs.Numbers.{numberOf, numbers};
-ghost use Rattle.std.specs.Orderings.{Decides};
+ghost use lib.Dec.{eqb};
 ghost use mathlib.Core.Path.{_≡_};
 
 mod words;
@@ -60,9 +60,9 @@ impl Refusal {
     }
 }
 
-// Written out, since a derived test of so many cases promises nothing.
+// Written out, since a derived test of so many cases promises nothing. Two refusals with one number are the same.
 pub impl PartialEq<Refusal> for Refusal as RefusalPartialEq {
-    ghost equals = { λ a b r. Decides r (a ≡ b) };
+    ghost equals = { λ a b r. r ≡ eqb (numberOf a) (numberOf b) };
 
     fn eq(&self, other: &Refusal) -> bool {
         self.number() == other.number()
@@ -146,21 +146,21 @@ impl Fault {
 
     /// The record that the fault names, or 0.
     pub fn record(&self) -> u32
-        ensures { λ r. ⌜ r ≡ numbers (now (self .entry)) .place ⌝ }
+        ensures { λ r. ⌜ r ≡ numbers (now (self .entry)) .recordNo ⌝ }
     {
         self.record
     }
 
     /// The step that the fault names, counted from 1, or 0.
     pub fn step(&self) -> u32
-        ensures { λ r. ⌜ r ≡ numbers (now (self .entry)) .turn ⌝ }
+        ensures { λ r. ⌜ r ≡ numbers (now (self .entry)) .stepNo ⌝ }
     {
         self.step
     }
 
     /// The number of the refusal below this one, or 0.
     pub fn cause(&self) -> u8
-        ensures { λ r. ⌜ r ≡ numbers (now (self .entry)) .reason ⌝ }
+        ensures { λ r. ⌜ r ≡ numbers (now (self .entry)) .causeNo ⌝ }
     {
         match self.cause {
             Some(below) => below.number(),

@@ -1,93 +1,91 @@
--- A page that is moved by the shape of its name, and by that shape with its sides exchanged.
-use mathlib.Core.Path.{_≡_, sym, ap, subst, _∙_}
+-- A page that is moved by a shape, and by that shape with its sides exchanged.
+use mathlib.Core.Path.{_≡_, refl, sym, ap, subst, _∙_}
+use mathlib.Core.Bool.{true}
 use mathlib.Core.List.{List}
 use Prim.Native.Nat.{ℕ, _+_, _*_, _<_}
 use native.Mathlib.Nat.{mul-comm}
 use native.Mathlib.Omega.{arith}
 use lib.ListN.{length, getD}
-use Rattle.std.specs.Options.{okOr}
+use Rattle.std.specs.Results.{isOk}
 use Rattle.std.specs.declared.option.Option.{Option}
 use Rattle.std.specs.declared.option.Option.the-variants.{Some, None}
-use Rattle.std.specs.declared.result.Result.the-variants.{Ok}
-use Rattle.fault.specs.declared.Fault.{Fault}
-use Rattle.places.specs.Turn.{transposed}
-use Rattle.places.proofs.Turned.{transposed-twice}
-use Rattle.transpose.specs.Answers.{transposable}
+use Rattle.std.specs.declared.result.Result.the-variants.{Ok, Err}
+use Rattle.fault.specs.Tests.{Answer, afterCall}
+use Rattle.fault.proofs.Left.{left-accepted}
+use Rattle.places.proofs.Turned.{transposed-twice, transposed-cells}
 use Rattle.transpose.proofs.Accepts.{fitting, transposable-flipped}
 use Rattle.signal.specs.declared.shape.Shape.{Shape}
-use Rattle.signal.specs.Pages.{shapeOf, flipped, fits, moved, interleaved, deinterleaved}
-use Rattle.signal.specs.Laws.{Sent, Restored}
+use Rattle.signal.specs.Pages.{sides, shapeOf, flipped, fits, moved, Symbols, interleaved, deinterleaved}
+use Rattle.signal.specs.Laws.{Restored}
 
-pub shape-found : (o : Option Shape) (s : Shape) (f : Fault) → Ok s ≡ okOr o f → o ≡ Some s
-shape-found None s f e = absurd (let z : _≡_ {A = ℕ} 0 1 = cc in omega arith)
-shape-found (Some t) s f e = cc
+-- a page of this shape has n symbols
+abbrev Long : Option Shape → ℕ → Type 0
+Long None n = ⊥
+Long (Some s) n = n ≡ s .width * s .height
 
-module _ {X : Type 0} (name : List ℕ) (s : Shape) (e : shapeOf name ≡ Some s) where
-  pub interleaved-is : (xs : List X) → interleaved name xs ≡ transposed (s .width) (s .height) xs
-  interleaved-is xs = ap (λ o. moved o xs) e
+pub fits-flipped : (o : Option Shape) (i n : ℕ) → fits (flipped o) i n ≡ fits o i n
+fits-flipped None i n = refl
+fits-flipped (Some s) i n = transposable-flipped (s .width) (s .height) i n
 
-  pub deinterleaved-is : (xs : List X) → deinterleaved name xs ≡ transposed (s .height) (s .width) xs
-  deinterleaved-is xs = ap (λ o. moved (flipped o) xs) e
+pub symbols-flipped : {X : Type 0} (o : Option Shape) (a b : List X) → Symbols (flipped o) a b → Symbols o b a
+symbols-flipped o a b h s e x y d p q = sym (h (sides (s .height) (s .width)) (ap flipped e) y x d q p)
 
-  -- what a page says of the shape that is found for its name
-  sent-by : (page sent : List X) →
-      ((x y : ℕ) (d : X) → x < s .width → y < s .height → getD sent (x * s .height + y) d ≡ getD page (y * s .width + x) d) →
-      Sent name page sent
-  sent-by page sent cells t f =
-      let same : s ≡ t = cc in
-      subst (λ (u : Shape). (x y : ℕ) (d : X) → x < u .width → y < u .height → getD sent (x * u .height + y) d ≡ getD page (y * u .width + x) d) same cells
+there-back : {X : Type 0} (o : Option Shape) (xs : List X) → Long o (length xs) → moved (flipped o) (moved o xs) ≡ xs
+there-back None xs l = absurd l
+there-back (Some s) xs l = transposed-twice (s .width) (s .height) xs l
 
-  sent-first : (page : List X) → length page ≡ s .width * s .height → deinterleaved name (interleaved name page) ≡ page
-  sent-first page long =
-      ap (deinterleaved name) (interleaved-is page) ∙ deinterleaved-is _ ∙ transposed-twice (s .width) (s .height) page long
+long-flipped : (o : Option Shape) (n : ℕ) → Long o n → Long (flipped o) n
+long-flipped None n l = l
+long-flipped (Some s) n l = l ∙ mul-comm (s .width) (s .height)
 
-  ordered-first : (page : List X) → length page ≡ s .width * s .height → interleaved name (deinterleaved name page) ≡ page
-  ordered-first page long =
-      ap (interleaved name) (deinterleaved-is page) ∙ interleaved-is _
-      ∙ transposed-twice (s .height) (s .width) page (long ∙ mul-comm (s .width) (s .height))
+flipped-flipped : (o : Option Shape) → flipped (flipped o) ≡ o
+flipped-flipped None = refl
+flipped-flipped (Some s) = refl
+
+back-there : {X : Type 0} (o : Option Shape) (xs : List X) → Long o (length xs) → moved o (moved (flipped o) xs) ≡ xs
+back-there o xs l =
+    ap (λ p. moved p (moved (flipped o) xs)) (sym (flipped-flipped o)) ∙ there-back (flipped o) xs (long-flipped o (length xs) l)
+
+long-by : (o : Option Shape) (s : Shape) (n : ℕ) → o ≡ Some s → n ≡ s .width * s .height → Long o n
+long-by o s n e l = subst (λ p. Long p n) (sym e) l
 
 pub restored : {X : Type 0} → Restored X
-restored = record { sent-first = λ name s page e long. sent-first name s e page long; ordered-first = λ name s page e long. ordered-first name s e page long }
+restored = record {
+  sent-first = λ name s page e long. there-back (shapeOf name) page (long-by _ s _ e long);
+  ordered-first = λ name s page e long. back-there (shapeOf name) page (long-by _ s _ e long);
+}
 
--- what is owed after an accepted transposition of `old`, into n places, has left `new`: by the shape,
-pub record Sending {X : Type 0} (name : List ℕ) (old new : List X) (n : ℕ) : Type 0 where
-  pub answer : Ok tt ≡ fits (shapeOf name) (length old) n
-  pub places : new ≡ interleaved name old
-  pub symbols : Sent name old new
-  pub restored : deinterleaved name new ≡ old
+-- an accepted page has its length
+long-accepted : (o : Option Shape) (r : Answer) (i n : ℕ) → r ≡ fits o i n → isOk r ≡ true → Long o i
+long-accepted None r i n e ok = absurd (let z : _≡_ {A = ℕ} 0 1 = cc in omega arith)
+long-accepted (Some s) (Err f) i n e ok = absurd (let z : _≡_ {A = ℕ} 0 1 = cc in omega arith)
+long-accepted (Some s) (Ok u) i n e ok = fitting (s .width) (s .height) i n e .input
 
--- and by its sides in the other order
-pub record Ordering {X : Type 0} (name : List ℕ) (old new : List X) (n : ℕ) : Type 0 where
-  pub answer : Ok tt ≡ fits (shapeOf name) (length old) n
-  pub places : new ≡ deinterleaved name old
-  pub symbols : Sent name new old
-  pub restored : (page : List X) → length page ≡ length old → old ≡ interleaved name page → new ≡ page
+symbols-moved : {X : Type 0} (o : Option Shape) (xs : List X) → Long o (length xs) → Symbols o xs (moved o xs)
+symbols-moved o xs l s e x y d a b =
+    let long : length xs ≡ s .width * s .height = subst (λ p. Long p (length xs)) e l in
+    ap (λ p. getD (moved p xs) (x * s .height + y) d) e ∙ transposed-cells (s .width) (s .height) xs long x y d a b
 
-module _ {X : Type 0} (name : List ℕ) (s : Shape) (e : shapeOf name ≡ Some s) (old new : List X) (n : ℕ) where
-  answered : fits (shapeOf name) (length old) n ≡ transposable (s .width) (s .height) (length old) n
-  answered = ap (λ o. fits o (length old) n) e
+pub symbols-by : {X : Type 0} (o : Option Shape) (s : Shape) (xs : List X) → o ≡ Some s → length xs ≡ s .width * s .height → Symbols o xs (moved o xs)
+symbols-by o s xs e long = symbols-moved o xs (long-by o s _ e long)
 
-  pub sending : Ok tt ≡ transposable (s .width) (s .height) (length old) n → new ≡ transposed (s .width) (s .height) old →
-      ((x y : ℕ) (d : X) → x < s .width → y < s .height → getD new (x * s .height + y) d ≡ getD old (y * s .width + x) d) →
-      Sending name old new n
-  sending ok is cells =
-      let places : new ≡ interleaved name old = is ∙ sym (interleaved-is name s e old) in
-      record {
-        answer = ok ∙ sym answered;
-        places = places;
-        symbols = sent-by name s e old new cells;
-        restored = ap (deinterleaved name) places ∙ sent-first name s e old (fitting _ _ _ _ ok .input);
-      }
+-- a call that answered r moved `old` by the shape o, and left `new`
+module _ {X : Type 0} (o : Option Shape) (r : Answer) (old new found : List X) (n : ℕ) (answer : r ≡ fits o (length old) n)
+    (places : new ≡ afterCall r (moved o old) found) (ok : isOk r ≡ true) where
+  page-long : Long o (length old)
+  page-long = long-accepted o r (length old) n answer ok
 
-  pub ordering : Ok tt ≡ transposable (s .height) (s .width) (length old) n → new ≡ transposed (s .height) (s .width) old →
-      ((x y : ℕ) (d : X) → x < s .height → y < s .width → getD new (x * s .width + y) d ≡ getD old (y * s .height + x) d) →
-      Ordering name old new n
-  ordering ok is cells =
-      let places : new ≡ deinterleaved name old = is ∙ sym (deinterleaved-is name s e old) in
-      let long : length old ≡ s .width * s .height = fitting _ _ _ _ ok .input ∙ mul-comm (s .height) (s .width) in
-      record {
-        answer = ok ∙ transposable-flipped (s .width) (s .height) (length old) n ∙ sym answered;
-        places = places;
-        symbols = sent-by name s e new old (λ x y d a b. sym (cells y x d b a));
-        restored = λ page m f. places ∙ ap (deinterleaved name) f ∙ sent-first name s e page (m ∙ long);
-      }
+  page-moved : new ≡ moved o old
+  page-moved = places ∙ left-accepted r (moved o old) found ok
+
+  pub page-symbols : Symbols o old new
+  page-symbols = subst (Symbols o old) (sym page-moved) (symbols-moved o old page-long)
+
+  pub page-restored : moved (flipped o) new ≡ old
+  page-restored = ap (moved (flipped o)) page-moved ∙ there-back o old page-long
+
+  -- where the shape is that of the way back
+  pub page-ordered : (p : Option Shape) → o ≡ flipped p → (page : List X) → length page ≡ length old → old ≡ moved p page → new ≡ page
+  page-ordered p e page m f =
+      let long : Long p (length page) = subst (λ q. Long q (length page)) (ap flipped e ∙ flipped-flipped p) (long-flipped o (length page) (subst (Long o) (sym m) page-long)) in
+      page-moved ∙ ap (λ q. moved q old) e ∙ ap (moved (flipped p)) f ∙ there-back p page long

@@ -1,26 +1,15 @@
 -- What is promised of pages, in the words of the signals.
 use mathlib.Core.Path.{_≡_}
-use mathlib.Core.Logic.{_⊎_}
 use mathlib.Core.List.{List}
-use Prim.Native.Nat.{ℕ, _+_, _*_, _<_}
-use lib.Chars.{codes}
-use lib.ListN.{length, getD}
+use Prim.Native.Nat.{ℕ, _*_}
+use lib.ListN.{length}
 use Rattle.std.specs.declared.option.Option.the-variants.{Some}
 use Rattle.signal.specs.declared.shape.Shape.{Shape}
-use Rattle.signal.specs.Pages.{sides, shapeOf, interleaved, deinterleaved}
+use Rattle.signal.specs.Pages.{Shaped, shapeOf, interleaved, deinterleaved}
 
--- three names have a shape, and no other text has one
-pub record Shapes : Type 0 where
-  pub f-nav : shapeOf (codes "F/NAV") ≡ Some (sides 8 61)
-  pub i-nav : shapeOf (codes "I/NAV") ≡ Some (sides 8 30)
-  pub l1c : shapeOf (codes "L1C") ≡ Some (sides 46 38)
-  pub only : (name : List ℕ) (s : Shape) → shapeOf name ≡ Some s → (name ≡ codes "F/NAV") ⊎ ((name ≡ codes "I/NAV") ⊎ (name ≡ codes "L1C"))
-
--- symbol y * width + x of the page named stands at x * height + y of what is sent
-abbrev pub Sent : {X : Type 0} → List ℕ → List X → List X → Type 0
-Sent {X} name page sent =
-    (s : Shape) → shapeOf name ≡ Some s → (x y : ℕ) (d : X) → x < s .width → y < s .height →
-    getD sent (x * s .height + y) d ≡ getD page (y * s .width + x) d
+-- three names have their shape, and no other text has one
+abbrev pub Shapes : Type 0
+Shapes = (name : List ℕ) → Shaped name (shapeOf name)
 
 -- a page of each name comes back whole, whichever way it goes first
 pub record Restored (X : Type 0) : Type 0 where

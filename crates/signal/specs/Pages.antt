@@ -1,8 +1,10 @@
 -- The pages of the signals, by name, and how they are interleaved.
+use mathlib.Core.Path.{_≡_}
 use mathlib.Core.Bool.{cond}
-use mathlib.Core.List.{List, [], _∷_}
-use Prim.Native.Nat.{ℕ}
+use mathlib.Core.List.{List}
+use Prim.Native.Nat.{ℕ, _+_, _*_, _<_}
 use lib.Chars.{codes}
+use lib.ListN.{getD}
 use Rattle.std.specs.declared.option.Option.{Option}
 use Rattle.std.specs.declared.option.Option.the-variants.{Some, None}
 use Rattle.std.specs.declared.result.Result.the-variants.{Err}
@@ -17,26 +19,20 @@ use Rattle.signal.specs.declared.shape.Shape.{Shape}
 abbrev pub sides : ℕ → ℕ → Shape
 sides w h = record { width = w; height = h }
 
--- a signal's name, letter by letter, and the matrix that its page is
-pub record Page : Type 0 where
-  pub name : List ℕ
-  pub shape : Shape
+-- r is the shape of the name, told name by name, letter by letter
+pub record Shaped (name : List ℕ) (r : Option Shape) : Type 0 where
+  pub f-nav : name ≡ codes "F/NAV" → r ≡ Some (sides 8 61)
+  pub i-nav : name ≡ codes "I/NAV" → r ≡ Some (sides 8 30)
+  pub l1c : name ≡ codes "L1C" → r ≡ Some (sides 46 38)
+  pub other : (name ≡ codes "F/NAV" → ⊥) → (name ≡ codes "I/NAV" → ⊥) → (name ≡ codes "L1C" → ⊥) → r ≡ None
 
-abbrev pub pages : List Page
-pages =
-    record { name = codes "F/NAV"; shape = sides 8 61 }
-    ∷ record { name = codes "I/NAV"; shape = sides 8 30 }
-    ∷ record { name = codes "L1C"; shape = sides 46 38 } ∷ []
-
--- the shape of the first page that has the name
-abbrev pub found : List Page → List ℕ → Option Shape
-found [] name = None
-found (p ∷ ps) name = cond (sameBytes name (p .name)) (Some (p .shape)) (found ps name)
-
+-- the same as a function
 unfoldable pub shapeOf : List ℕ → Option Shape
-shapeOf name = found pages name
+shapeOf name =
+    cond (sameBytes name (codes "F/NAV")) (Some (sides 8 61))
+    (cond (sameBytes name (codes "I/NAV")) (Some (sides 8 30)) (cond (sameBytes name (codes "L1C")) (Some (sides 46 38)) None))
 
--- the way back: rows and columns exchanged
+-- the way back: the two sides exchanged
 abbrev pub flipped : Option Shape → Option Shape
 flipped None = None
 flipped (Some s) = Some (sides (s .height) (s .width))
@@ -50,6 +46,12 @@ fits (Some s) input output = transposable (s .width) (s .height) input output
 abbrev pub moved : {X : Type 0} → Option Shape → List X → List X
 moved None xs = xs
 moved (Some s) xs = transposed (s .width) (s .height) xs
+
+-- symbol y * width + x of a page of this shape stands at x * height + y of what is sent
+abbrev pub Symbols : {X : Type 0} → Option Shape → List X → List X → Type 0
+Symbols {X} o page sent =
+    (s : Shape) → o ≡ Some s → (x y : ℕ) (d : X) → x < s .width → y < s .height →
+    getD sent (x * s .height + y) d ≡ getD page (y * s .width + x) d
 
 -- a page as it is sent, and a page that was sent put in order again
 abbrev pub interleaved : {X : Type 0} → List ℕ → List X → List X

@@ -18,7 +18,6 @@ pub record Fitting (w h i o : ℕ) : Type 0 where
   pub output : o ≡ w * h
 
 pub fitting : (w h i o : ℕ) → Ok tt ≡ transposable w h i o → Fitting w h i o
-unfolding transposable
 fitting w h i o e =
     let none = only-accepted (turnTests w h i o) (declines true (plain TooManyCells)) (sym e) in
     record {
@@ -29,5 +28,4 @@ fitting w h i o e =
 
 -- the two sides may be exchanged: only their product counts
 pub transposable-flipped : (w h i o : ℕ) → transposable h w i o ≡ transposable w h i o
-unfolding transposable
 transposable-flipped w h i o = rw (mul-comm h w)

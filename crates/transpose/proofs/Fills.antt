@@ -1,12 +1,12 @@
 -- A copy that fills the output from its first cell on.
-use mathlib.Core.Path.{_≡_, sym, ap, _∙_}
+use mathlib.Core.Path.{_≡_, sym, ap, ap₂, _∙_}
 use mathlib.Core.Logic.{⊎-elim}
 use mathlib.Core.List.{List}
-use Prim.Native.Nat.{ℕ, _+_, _*_, _<_, _≤_}
+use Prim.Native.Nat.{ℕ, _+_, _*_, _<_}
 use native.Mathlib.Omega.{arith}
 use lib.ListN.{length, getD, set}
 use Rattle.std.proofs.shelf.Bits.{mul-add-lt}
-use Rattle.std.proofs.shelf.Lists.{getD-read, getD-set-same, getD-set-other}
+use Rattle.std.proofs.shelf.Lists.{getD-set-same, getD-set-other}
 use Rattle.std.proofs.shelf.Tests.{cases-eq}
 use Rattle.places.specs.Turn.{turned}
 use Rattle.places.proofs.Turned.{turned-at}
@@ -23,13 +23,13 @@ module _ (w h x y : ℕ) (a : x < w) (b : y < h) where
   pub in-input : y * w + x < w * h
   in-input = mul-add-lt y w x h b a
 
-  pub fill-more : {X : Type 0} (input output : List X) (v : X) → length input ≡ w * h → length output ≡ w * h → v ≡ getD input (y * w + x) v →
-      Filled w h input output (x * h + y) → Filled w h input (set output (x * h + y) v) (x * h + (y + 1))
-  fill-more input output v m n is filled q d l = ⊎-elim
+  -- one cell more
+  pub fill-more : {X : Type 0} (input old new : List X) → length old ≡ w * h → ((d : X) → new ≡ set old (x * h + y) (getD input (y * w + x) d)) →
+      Filled w h input old (x * h + y) → Filled w h input new (x * h + (y + 1))
+  fill-more input old new long is filled q d l = ⊎-elim
       (λ (e : q ≡ x * h + y).
-      ap (λ i. getD (set output (x * h + y) v) i d) e ∙ getD-set-same output (x * h + y) v d (omega (arith, in-output))
-      ∙ getD-read input (y * w + x) v (omega (arith, in-input)) is d
+      ap₂ (λ l i. getD l i d) (is d) e ∙ getD-set-same old (x * h + y) (getD input (y * w + x) d) d (omega (arith, in-output))
       ∙ sym (ap (λ i. getD input i d) (ap (turned w h) e ∙ turned-at w h x y b)))
       (λ (e : q ≡ x * h + y → ⊥).
-      getD-set-other output (x * h + y) q v d e ∙ filled q d (omega arith))
+      ap (λ l. getD l q d) (is d) ∙ getD-set-other old (x * h + y) q (getD input (y * w + x) d) d e ∙ filled q d (omega arith))
       (cases-eq q (x * h + y))

@@ -14,5 +14,5 @@ turnTests width height input output =
     ∷ declines (not (eqb input (width * height))) (plain InputLength)
     ∷ declines (not (eqb output (width * height))) (plain OutputLength) ∷ []
 
-unfoldable pub transposable : ℕ → ℕ → ℕ → ℕ → Answer
+abbrev pub transposable : ℕ → ℕ → ℕ → ℕ → Answer
 transposable width height input output = tested (turnTests width height input output)

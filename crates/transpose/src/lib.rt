@@ -4,7 +4,7 @@ ghost use Rattle.fault.specs.Tests.{afterCall};
 ghost use Rattle.places.specs.Turn.{transposed};
 ghost use Rattle.std.specs.Results.{isOk};
 ghost use Rattle.transpose.specs.Answers.{transposable};
-ghost use lib.ListN.{getD, length};
+ghost use lib.ListN.{getD, length, set};
 ghost use mathlib.Core.Bool.{true};
 ghost use mathlib.Core.Path.{_≡_};
 use fault::Fault;
@@ -51,11 +51,28 @@ pub fn transpose<T: Copy>(
 fn transpose_small<T: Copy>(input: &[T], output: &mut [T], width: usize, height: usize)
     requires input { ⌜ length (now input) ≡ width * height ⌝ }
     requires output { ⌜ length (now output) ≡ width * height ⌝ }
-    ensures { λ _. ⌜ now (output .exit) ≡ transposed width height (now (input .entry)) ⌝ }
+    ensures places { λ _. ⌜ now (output .exit) ≡ transposed width height (now (input .entry)) ⌝ }
+    ensures cells { λ _. ⌜ ((x y : ℕ) (d : T) → x < width → y < height → getD (now (output .exit)) (x * height + y) d ≡ getD (now (input .entry)) (y * width + x) d) ⌝ }
 {
     for x in 0..width {
         for y in 0..height {
-            output[x * height + y] = input[y * width + x];
+            copy_cell(input, output, width, height, x, y);
         }
     }
+}
+
+/// Copies the cell in row `y` and column `x`. Inner: it lies in both buffers.
+fn copy_cell<T: Copy>(
+    input: &[T],
+    output: &mut [T],
+    width: usize,
+    height: usize,
+    x: usize,
+    y: usize,
+)
+    requires input { ⌜ y * width + x < length (now input) ⌝ }
+    requires output { ⌜ x * height + y < length (now output) ⌝ }
+    ensures { λ _. ⌜ ((d : T) → now (output .exit) ≡ set (now (output .entry)) (x * height + y) (getD (now (input .entry)) (y * width + x) d)) ⌝ }
+{
+    output[x * height + y] = input[y * width + x];
 }

@@ -1,12 +1,23 @@
-use mathlib.Core.Path.{refl}
+use mathlib.Core.Path.{_≡_, ap, _∙_}
 use lib.ListN.{length}
-use Rattle.signal.proofs.Restores.{shape-found, sending}
+use Rattle.fault.specs.Tests.{afterCall}
+use Rattle.signal.specs.Pages.{shapeOf, fits, moved}
+use Rattle.signal.proofs.Restores.{page-symbols, page-restored}
 use Rattle.signal.proofs.interleave.Needs as need
 
 pub returns : need.returns
 returns g c =
-    let e = shape-found _ _ _ (c .in-Continue-shape .ensures tt) in
-    let move = c .in-Continue-transpose .ensures tt in
-    let all = sending (c .args .name .now) (c .in-Continue-shape .shape) e (c .args .page .now) (c .transpose .last .output)
-    (length (c .args .output .now)) (move .answer) (move .places) (move .cells refl) in
-    record { answer = all .answer; places = all .places; symbols = λ _. all .symbols; restored = λ _. all .restored }
+    let o = shapeOf (c .args .name .now) in
+    let r = c .move-page .result in
+    let page = c .args .page .now in
+    let found = c .args .output .now in
+    let new = c .move-page .last .output in
+    let call = c .move-page .ensures in
+    let answer : r ≡ fits o (length page) (length found) = call .answer ∙ ap (λ p. fits p (length page) (length found)) (c .shape-of .ensures) in
+    let places : new ≡ afterCall r (moved o page) found = call .places ∙ ap (λ p. afterCall r (moved p page) found) (c .shape-of .ensures) in
+    record {
+      answer = answer;
+      places = places;
+      symbols = page-symbols o r page new found (length found) answer places;
+      restored = page-restored o r page new found (length found) answer places;
+    }
