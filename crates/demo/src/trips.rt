@@ -1,9 +1,10 @@
 //! Pages sent and put in order again, and where their symbols went.
 ghost use Prim.Native.Nat.{ℕ, _<_, _≤_};
 ghost use Rattle.demo.specs.Rules.{numberAt};
-ghost use Rattle.fault.specs.Tests.{afterCall, andThen};
+ghost use Rattle.demo.specs.Trips.{paged, tripped};
+ghost use Rattle.fault.specs.Tests.{afterCall};
 ghost use Rattle.places.specs.Places.{same};
-ghost use Rattle.signal.specs.Pages.{fits, interleaved, shapeOf};
+ghost use Rattle.signal.specs.Pages.{interleaved};
 ghost use Rattle.std.specs.Options.{Cases as BySome};
 ghost use Rattle.std.specs.Results.{Cases};
 ghost use Rattle.std.specs.declared.result.Result.the-variants.{Err};
@@ -25,8 +26,8 @@ pub fn round_trip<T: Copy>(
     sent: &mut [T],
     back: &mut [T],
 ) -> Result<(), Fault>
-    ensures answer { λ r. ⌜ r ≡ andThen (fits (shapeOf (now (name .entry))) (length (now (page .entry))) (length (now (sent .entry)))) (fits (shapeOf (now (name .entry))) (length (now (sent .entry))) (length (now (back .entry)))) ⌝ }
-    ensures sent { λ r. ⌜ now (sent .exit) ≡ afterCall (fits (shapeOf (now (name .entry))) (length (now (page .entry))) (length (now (sent .entry)))) (interleaved (now (name .entry)) (now (page .entry))) (now (sent .entry)) ⌝ }
+    ensures answer { λ r. ⌜ r ≡ tripped (now (name .entry)) (length (now (page .entry))) (length (now (sent .entry))) (length (now (back .entry))) ⌝ }
+    ensures sent { λ r. ⌜ now (sent .exit) ≡ afterCall (paged (now (name .entry)) (length (now (page .entry))) (length (now (sent .entry)))) (interleaved (now (name .entry)) (now (page .entry))) (now (sent .entry)) ⌝ }
     ensures back { λ r. ⌜ now (back .exit) ≡ afterCall r (now (page .entry)) (now (back .entry)) ⌝ }
 {
     interleave(name, page, sent)?;
@@ -57,8 +58,10 @@ pub fn trip<R: Rule>(
     sent: &mut [R::Item],
     back: &mut [R::Item],
 ) -> Result<usize, Fault>
+    ensures count { λ r. ⌜ Cases r (λ count. count ≡ length (now (page .entry))) (λ f. tripped (now (name .entry)) (length (now (page .entry))) (length (now (sent .entry))) (length (now (back .entry))) ≡ Err f) ⌝ }
     ensures page { λ r. ⌜ now (page .exit) ≡ map (R·Rule .at) (same (length (now (page .entry)))) ⌝ }
-    ensures count { λ r. ⌜ Cases r (λ count. count ≡ length (now (page .entry))) (λ f. andThen (fits (shapeOf (now (name .entry))) (length (now (page .entry))) (length (now (sent .entry)))) (fits (shapeOf (now (name .entry))) (length (now (sent .entry))) (length (now (back .entry)))) ≡ Err f) ⌝ }
+    ensures sent { λ r. ⌜ now (sent .exit) ≡ afterCall (paged (now (name .entry)) (length (now (page .entry))) (length (now (sent .entry)))) (interleaved (now (name .entry)) (map (R·Rule .at) (same (length (now (page .entry)))))) (now (sent .entry)) ⌝ }
+    ensures back { λ r. ⌜ now (back .exit) ≡ afterCall (tripped (now (name .entry)) (length (now (page .entry))) (length (now (sent .entry))) (length (now (back .entry)))) (map (R·Rule .at) (same (length (now (page .entry))))) (now (back .entry)) ⌝ }
 {
     fill::<R>(page);
     round_trip(name, page, sent, back)?;
@@ -67,7 +70,7 @@ pub fn trip<R: Rule>(
 
 /// Sends the numbers of the places of a page, which shows where each symbol goes.
 pub fn sent_places(name: &str, numbers: &mut [u32], sent: &mut [u32]) -> Result<(), Fault>
-    ensures answer { λ r. ⌜ r ≡ fits (shapeOf (now (name .entry))) (length (now (numbers .entry))) (length (now (sent .entry))) ⌝ }
+    ensures answer { λ r. ⌜ r ≡ paged (now (name .entry)) (length (now (numbers .entry))) (length (now (sent .entry))) ⌝ }
     ensures numbers { λ r. ⌜ now (numbers .exit) ≡ map numberAt (same (length (now (numbers .entry)))) ⌝ }
     ensures sent { λ r. ⌜ now (sent .exit) ≡ afterCall r (interleaved (now (name .entry)) (map numberAt (same (length (now (numbers .entry)))))) (now (sent .entry)) ⌝ }
 {

@@ -1,5 +1,7 @@
--- Each refusal has a number of its own.
+-- Each refusal has a number of its own, and a fault names what applies to it.
 use mathlib.Core.Path.{_≡_, refl, sym, ap, _∙_}
+use mathlib.Core.Bool.{true, false}
+use mathlib.Core.Logic.{inl, inr, ⊎-elim}
 use mathlib.Core.List.{List, [], _∷_, map}
 use Prim.Native.Nat.{ℕ, zero, suc, _+_, _-_, _≤_, _<_}
 use native.Mathlib.Omega.{arith}
@@ -7,6 +9,7 @@ use lib.Dec.{lit≤}
 use lib.ListN.{getD}
 use Rattle.std.specs.Iters.{counting}
 use Rattle.std.proofs.shelf.Lists.{getD-map}
+use Rattle.std.proofs.shelf.Tests.{cases-bool, and-parts, leb-true, cond-false}
 use Rattle.std.proofs.shelf.Counted.{getD-counting}
 use Rattle.std.specs.declared.option.Option.{Option}
 use Rattle.std.specs.declared.option.Option.the-variants.{Some, None}
@@ -14,7 +17,8 @@ use Rattle.fault.specs.declared.Refusal.{Refusal}
 use Rattle.fault.specs.declared.Refusal.the-variants.{TooManyCells, InputLength, OutputLength, SquareSides, SquareOutside, NotPowerOfTwo, BitLength, BlockLength, Outside, NoRecord, BadRecord, TooManySteps, TooLong, StepRefused, FittedLength, NoShape, TableBytes}
 use Rattle.fault.specs.declared.Fault.{Fault}
 use Rattle.fault.specs.Numbers.{numberOf, causeOf, numbers, Numbers}
-use Rattle.fault.specs.Laws.{Numbered}
+use Rattle.fault.specs.Makers.{ofRecord, atRecord}
+use Rattle.fault.specs.Laws.{Numbered, Applies, Made}
 
 -- the refusals in the order of their numbers
 abbrev all : List Refusal
@@ -73,4 +77,20 @@ numbered = record {
   apart = apart;
   every = λ n a b. (named n, listed (n - 1) (omega arith) ∙ (omega arith));
   whole = λ f g e. same-fault f g (apart _ _ (ap (λ x. x .number) e)) (ap (λ x. x .recordNo) e) (ap (λ x. x .stepNo) e) (causes-apart _ _ (ap (λ x. x .causeNo) e));
+}
+
+at-record-applies : (r : Refusal) (i : ℕ) → Applies (atRecord r i)
+at-record-applies r i = record {
+  recorded = ⊎-elim
+      (λ (e : ofRecord r ≡ true). let p = and-parts _ _ e in inl (leb-true _ _ (p .0), leb-true _ _ (p .1)))
+      (λ (e : ofRecord r ≡ false). inr (inr (cond-false _ _ _ e)))
+      (cases-bool (ofRecord r));
+  stepped = inr (refl, refl);
+}
+
+pub made : Made
+made = record {
+  plain = λ r. record { recorded = inr (inr refl); stepped = inr (refl, refl) };
+  at-record = at-record-applies;
+  in-step = λ i k below. record { recorded = inr (inl refl); stepped = inl refl };
 }

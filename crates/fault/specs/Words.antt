@@ -1,7 +1,9 @@
 -- The line that a fault is shown as.
 use Prim.Native.Nat.{ℕ}
+use mathlib.Core.Bool.{cond}
 use mathlib.Core.List.{List, [], _++_}
 use lib.Chars.{codes}
+use lib.Dec.{eqb}
 use Rattle.std.specs.Written.{decimal}
 use Rattle.std.specs.declared.option.Option.{Option}
 use Rattle.std.specs.declared.option.Option.the-variants.{Some, None}
@@ -9,6 +11,7 @@ use Rattle.fault.specs.declared.Refusal.{Refusal}
 use Rattle.fault.specs.declared.Refusal.the-variants.{TooManyCells, InputLength, OutputLength, SquareSides, SquareOutside, NotPowerOfTwo, BitLength, BlockLength, Outside, NoRecord, BadRecord, TooManySteps, TooLong, StepRefused, FittedLength, NoShape, TableBytes}
 use Rattle.fault.specs.declared.Fault.{Fault}
 use Rattle.fault.specs.Numbers.{numberOf}
+use Rattle.fault.specs.Makers.{ofRecord}
 
 -- what was refused
 abbrev pub wordsOf : Refusal → List ℕ
@@ -34,25 +37,11 @@ wordsOf TableBytes = codes "the bytes are not 20 for each record of the table"
 abbrev pub reason : Refusal → List ℕ
 reason r = codes "refusal " ++ (decimal (numberOf r) ++ (codes ": " ++ wordsOf r))
 
--- where in the plan, if the refusal is about a record of it: "record 4, step 2, "
+-- where in the plan, if the refusal is about a record of it: "record 4, " or "record 4, step 2, "
 abbrev pub position : Refusal → ℕ → ℕ → List ℕ
-position NoRecord i k = codes "record " ++ (decimal i ++ codes ", ")
-position BadRecord i k = codes "record " ++ (decimal i ++ codes ", ")
-position TooManySteps i k = codes "record " ++ (decimal i ++ codes ", ")
-position StepRefused i k = codes "record " ++ (decimal i ++ (codes ", step " ++ (decimal k ++ codes ", ")))
-position TooManyCells i k = []
-position InputLength i k = []
-position OutputLength i k = []
-position SquareSides i k = []
-position SquareOutside i k = []
-position NotPowerOfTwo i k = []
-position BitLength i k = []
-position BlockLength i k = []
-position Outside i k = []
-position TooLong i k = []
-position FittedLength i k = []
-position NoShape i k = []
-position TableBytes i k = []
+position r i k = cond (ofRecord r)
+    (codes "record " ++ (decimal i ++ codes ", "))
+    (cond (eqb (numberOf r) 14) (codes "record " ++ (decimal i ++ (codes ", step " ++ (decimal k ++ codes ", ")))) [])
 
 -- " (refusal 2: ..)" for the refusal below
 abbrev pub because : Option Refusal → List ℕ

@@ -1,6 +1,5 @@
 //! Why a call was declined: one fault type for every layer.
-ghost use Prim.Native.Nat.{ℕ};
-ghost use Rattle.fault.specs.Laws.{InOrder, Numbered};
+ghost use Rattle.fault.specs.Laws.{InOrder, Made, Numbered};
 ghost use Rattle.fault.specs.Makers.{atRecord, inStep, plain};
 ghost use Rattle.fault.specs.Numbers.{numberOf, numbers};
 ghost use lib.Dec.{eqb};
@@ -91,13 +90,16 @@ impl Fault {
         }
     }
 
-    /// A fault of a record of a plan's table.
+    /// A fault of a record of a plan's table. Only refusals about one record keep it.
     pub fn at_record(refusal: Refusal, record: u32) -> Fault
         ensures { λ r. ⌜ r ≡ atRecord refusal «record» ⌝ }
     {
-        Fault {
-            record,
-            ..Fault::new(refusal)
+        match refusal {
+            Refusal::NoRecord | Refusal::BadRecord | Refusal::TooManySteps => Fault {
+                record,
+                ..Fault::new(refusal)
+            },
+            _ => Fault::new(refusal),
         }
     }
 
@@ -106,17 +108,26 @@ impl Fault {
         ensures { λ r. ⌜ r ≡ inStep «record» step below ⌝ }
     {
         Fault {
+            record,
             step,
             cause: Some(below.refusal),
-            ..Fault::at_record(Refusal::StepRefused, record)
+            ..Fault::new(Refusal::StepRefused)
         }
+    }
+
+    /// Which refusal it is.
+    pub fn refusal(&self) -> Refusal
+        ensures { λ r. ⌜ r ≡ now (self .entry) .refusal ⌝ }
+    {
+        self.refusal
     }
 
     /// The number of the refusal, from 1 to 17.
     pub fn number(&self) -> u8
         ensures { λ r. ⌜ r ≡ numbers (now (self .entry)) .number ⌝ }
     {
-        self.refusal.number()
+        let refusal = self.refusal();
+        refusal.number()
     }
 
     /// The layer that declines: 1 a row or a tile, 2 a move, 3 a plan, 4 a signal.
@@ -169,8 +180,9 @@ impl Fault {
     }
 }
 
-/// The laws of the numbers, and of tests that are made in order.
+/// The laws of the numbers, of what a fault names, and of tests that are made in order.
 pub fn refusals_stand()
     ensures numbered { λ _. ⌜ Numbered ⌝ }
+    ensures made { λ _. ⌜ Made ⌝ }
     ensures in_order { λ _. ⌜ InOrder ⌝ }
 {}

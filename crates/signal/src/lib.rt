@@ -1,5 +1,4 @@
 //! Pages of navigation signals: interleaving by name, and the way back.
-ghost use Prim.Native.Nat.{ℕ, _*_, _+_, _<_};
 ghost use Rattle.fault.specs.Tests.{afterCall};
 ghost use Rattle.signal.specs.Laws.{Restored, Shapes};
 ghost use Rattle.signal.specs.Pages.{Shaped, Symbols, deinterleaved, fits, flipped, interleaved, moved, shapeOf};
@@ -27,18 +26,9 @@ fn match_name(name: &str) -> Option<Shape>
     ensures { λ r. ⌜ Shaped (now (name .entry)) r ⌝ }
 {
     match name {
-        "F/NAV" => Some(Shape {
-            width: 8,
-            height: 61,
-        }),
-        "I/NAV" => Some(Shape {
-            width: 8,
-            height: 30,
-        }),
-        "L1C" => Some(Shape {
-            width: 46,
-            height: 38,
-        }),
+        "F/NAV" => Some(Shape::new(8, 61)),
+        "I/NAV" => Some(Shape::new(8, 30)),
+        "L1C" => Some(Shape::new(46, 38)),
         _ => None,
     }
 }
