@@ -1,6 +1,6 @@
 -- Each worked case, worked.
 use mathlib.Core.Path.{_≡_, refl}
-use mathlib.Core.List.{List, [], _∷_}
+use mathlib.Core.List.{List, []}
 use Prim.Native.Nat.{ℕ, _+_, _*_, _<_}
 use lib.Chars.{codes}
 use lib.Dec.{lit<}
@@ -10,7 +10,7 @@ use Rattle.signal.specs.declared.shape.Shape.{Shape}
 use Rattle.signal.specs.Pages.{shapeOf}
 use Rattle.signal.proofs.Names.{shapes}
 use Rattle.signal.proofs.Restores.{symbols-by}
-use Rattle.cases.specs.Cases.{Case, transposes, sends, Holds, All, cases}
+use Rattle.cases.specs.Cases.{transposes, sends, Holds, All, cases}
 
 module _ (X : Type 0) where
   letters : Holds X (transposes 2 3 (codes "abcdef") (codes "acebdf"))

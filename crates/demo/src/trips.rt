@@ -7,7 +7,7 @@ ghost use Rattle.places.specs.Places.{same};
 ghost use Rattle.signal.specs.Pages.{interleaved};
 ghost use Rattle.std.specs.Options.{Cases as BySome};
 ghost use Rattle.std.specs.Results.{Cases};
-ghost use Rattle.std.specs.declared.result.Result.the-variants.{Err};
+ghost use Rattle.std.specs.declared.result.Result.the-variants.{Err, Ok};
 ghost use lib.ListN.{getD, length};
 ghost use mathlib.Core.List.{map};
 ghost use mathlib.Core.Path.{_≡_};
@@ -58,7 +58,7 @@ pub fn trip<R: Rule>(
     sent: &mut [R::Item],
     back: &mut [R::Item],
 ) -> Result<usize, Fault>
-    ensures count { λ r. ⌜ Cases r (λ count. count ≡ length (now (page .entry))) (λ f. tripped (now (name .entry)) (length (now (page .entry))) (length (now (sent .entry))) (length (now (back .entry))) ≡ Err f) ⌝ }
+    ensures count { λ r. ⌜ Cases r (λ count. (tripped (now (name .entry)) (length (now (page .entry))) (length (now (sent .entry))) (length (now (back .entry))) ≡ Ok tt) × (count ≡ length (now (page .entry)))) (λ f. tripped (now (name .entry)) (length (now (page .entry))) (length (now (sent .entry))) (length (now (back .entry))) ≡ Err f) ⌝ }
     ensures page { λ r. ⌜ now (page .exit) ≡ map (R·Rule .at) (same (length (now (page .entry)))) ⌝ }
     ensures sent { λ r. ⌜ now (sent .exit) ≡ afterCall (paged (now (name .entry)) (length (now (page .entry))) (length (now (sent .entry)))) (interleaved (now (name .entry)) (map (R·Rule .at) (same (length (now (page .entry)))))) (now (sent .entry)) ⌝ }
     ensures back { λ r. ⌜ now (back .exit) ≡ afterCall (tripped (now (name .entry)) (length (now (page .entry))) (length (now (sent .entry))) (length (now (back .entry)))) (map (R·Rule .at) (same (length (now (page .entry))))) (now (back .entry)) ⌝ }

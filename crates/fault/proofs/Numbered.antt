@@ -3,7 +3,7 @@ use mathlib.Core.Path.{_≡_, refl, sym, ap, _∙_}
 use mathlib.Core.Bool.{true, false}
 use mathlib.Core.Logic.{inl, inr, ⊎-elim}
 use mathlib.Core.List.{List, [], _∷_, map}
-use Prim.Native.Nat.{ℕ, zero, suc, _+_, _-_, _≤_, _<_}
+use Prim.Native.Nat.{ℕ, _+_, _-_, _≤_, _<_}
 use native.Mathlib.Omega.{arith}
 use lib.Dec.{lit≤}
 use lib.ListN.{getD}
@@ -16,7 +16,7 @@ use Rattle.std.specs.declared.option.Option.the-variants.{Some, None}
 use Rattle.fault.specs.declared.Refusal.{Refusal}
 use Rattle.fault.specs.declared.Refusal.the-variants.{TooManyCells, InputLength, OutputLength, SquareSides, SquareOutside, NotPowerOfTwo, BitLength, BlockLength, Outside, NoRecord, BadRecord, TooManySteps, TooLong, StepRefused, FittedLength, NoShape, TableBytes}
 use Rattle.fault.specs.declared.Fault.{Fault}
-use Rattle.fault.specs.Numbers.{numberOf, causeOf, numbers, Numbers}
+use Rattle.fault.specs.Numbers.{numberOf, causeOf}
 use Rattle.fault.specs.Makers.{ofRecord, atRecord}
 use Rattle.fault.specs.Laws.{Numbered, Applies, Made}
 

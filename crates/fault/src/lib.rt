@@ -1,6 +1,6 @@
 //! Why a call was declined: one fault type for every layer.
 ghost use Rattle.fault.specs.Laws.{InOrder, Made, Numbered};
-ghost use Rattle.fault.specs.Makers.{atRecord, inStep, plain};
+ghost use Rattle.fault.specs.Makers.{atRecord, inStep, ofRecord, plain};
 ghost use Rattle.fault.specs.Numbers.{numberOf, numbers};
 ghost use lib.Dec.{eqb};
 ghost use mathlib.Core.Path.{_≡_};
@@ -57,6 +57,16 @@ impl Refusal {
     {
         self as u8
     }
+
+    /// Whether the refusal is about one record of a plan's table.
+    fn of_record(self) -> bool
+        ensures { λ r. ⌜ r ≡ ofRecord self ⌝ }
+    {
+        matches!(
+            self,
+            Refusal::NoRecord | Refusal::BadRecord | Refusal::TooManySteps
+        )
+    }
 }
 
 // Written out, since a derived test of so many cases promises nothing. Two refusals with one number are the same.
@@ -94,12 +104,12 @@ impl Fault {
     pub fn at_record(refusal: Refusal, record: u32) -> Fault
         ensures { λ r. ⌜ r ≡ atRecord refusal «record» ⌝ }
     {
-        match refusal {
-            Refusal::NoRecord | Refusal::BadRecord | Refusal::TooManySteps => Fault {
-                record,
-                ..Fault::new(refusal)
-            },
-            _ => Fault::new(refusal),
+        if !refusal.of_record() {
+            return Fault::new(refusal);
+        }
+        Fault {
+            record,
+            ..Fault::new(refusal)
         }
     }
 

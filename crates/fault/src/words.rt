@@ -57,10 +57,10 @@ impl fmt::Display for Position as PositionDisplay {
     fn fmt<W: fmt::Write>(&self, f: &mut fmt::Formatter<W>) -> fmt::Result {
         let record = self.record;
         let step = self.step;
+        if self.refusal.of_record() {
+            return write!(f, "record {record}, ");
+        }
         match self.refusal {
-            Refusal::NoRecord | Refusal::BadRecord | Refusal::TooManySteps => {
-                write!(f, "record {record}, ")
-            }
             Refusal::StepRefused => write!(f, "record {record}, step {step}, "),
             _ => Ok(()),
         }

@@ -7,7 +7,6 @@ use lib.ListN.{length, getD}
 use Rattle.std.proofs.shelf.Lists.{length-map, same-lists, getD-map, getD-default}
 use Rattle.std.proofs.shelf.Counted.{length-counting, getD-counting}
 use Rattle.places.specs.Places.{placed, same}
-use Rattle.places.specs.Laws.{Moving}
 
 module _ {X Y : Type 0} where
   -- a read of a mapped list, at the default that is mapped too

@@ -1,17 +1,15 @@
 -- Permutations of places: they follow one another, and each has an inverse.
 use mathlib.Core.Path.{_≡_, refl, sym, ap, _∙_}
-use mathlib.Core.Bool.{cond}
 use mathlib.Core.Logic.{⊎-elim}
 use mathlib.Core.List.{List, [], _∷_}
 use Prim.Native.Nat.{ℕ, zero, suc, _<_}
 use native.Mathlib.Omega.{arith}
 use lib.ListN.{length, getD}
-use lib.Dec.{eqb}
 use Rattle.std.proofs.shelf.Lists.{same-lists, getD-default}
 use Rattle.std.proofs.shelf.Counted.{length-counting, getD-counting, getD-map-counting, length-map-counting}
 use Rattle.std.proofs.shelf.Tests.{cases-eq, eq-eqb, ne-eqb}
 use Rattle.places.specs.Places.{placed, same, Once, placeOf, inverse}
-use Rattle.places.proofs.Moved.{placed-placed, length-placed, getD-placed, placed-from, placed-same}
+use Rattle.places.proofs.Moved.{placed-placed, length-placed, getD-placed, placed-same}
 
 pub same-at : (n q d : ℕ) → q < n → getD (same n) q d ≡ q
 same-at n q d l = let g = getD-counting 0 n q d l in omega arith

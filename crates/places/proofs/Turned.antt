@@ -10,7 +10,7 @@ use Rattle.std.proofs.shelf.Bits.{div-mul-add, mod-mul-add, div-below, mod-belo
 use Rattle.std.proofs.shelf.Tests.{cases-eq}
 use Rattle.places.specs.Places.{placed, Once, inverse}
 use Rattle.places.specs.Orders.{order, Inverses}
-use Rattle.places.specs.Turn.{turned, turn, transposed}
+use Rattle.places.specs.Turn.{Cells, turned, turn, transposed}
 use Rattle.places.specs.Laws.{Turning, Transposing}
 use Rattle.places.proofs.Moved.{length-placed}
 use Rattle.places.proofs.Permuted.{there-back}
@@ -63,7 +63,7 @@ module _ {X : Type 0} (w h : ℕ) (xs : List X) (long : length xs ≡ w * h) whe
   unfolding transposed
   length-transposed = let m = length-order (w * h) (turned w h) in length-placed (turn w h) xs (omega arith) ∙ long
 
-  pub transposed-cells : (x y : ℕ) (d : X) → x < w → y < h → getD (transposed w h xs) (x * h + y) d ≡ getD xs (y * w + x) d
+  pub transposed-cells : Cells w h xs (transposed w h xs)
   unfolding transposed
   transposed-cells x y d a b =
       let l : x * h + y < w * h = omega (arith, mul-add-lt x h y w a b) in

@@ -5,7 +5,7 @@ use Prim.Native.Nat.{ℕ, _+_, _*_, _<_}
 use lib.ListN.{length, getD}
 use Rattle.places.specs.Places.{placed, same, Once, inverse}
 use Rattle.places.specs.Orders.{order, Inverses}
-use Rattle.places.specs.Turn.{turned, turn, transposed}
+use Rattle.places.specs.Turn.{Cells, turned, turn, transposed}
 
 -- moving by a list of places, at any element type: what stands where, moves one after the other, and the way back
 pub record Moving (X : Type 0) : Type 0 where
@@ -33,7 +33,6 @@ pub record Turning : Type 0 where
 
 -- the same of the matrix itself
 pub record Transposing (X : Type 0) : Type 0 where
-  pub cells : (w h : ℕ) (xs : List X) → length xs ≡ w * h → (x y : ℕ) (d : X) → x < w → y < h →
-      getD (transposed w h xs) (x * h + y) d ≡ getD xs (y * w + x) d
+  pub cells : (w h : ℕ) (xs : List X) → length xs ≡ w * h → Cells w h xs (transposed w h xs)
   pub long : (w h : ℕ) (xs : List X) → length xs ≡ w * h → length (transposed w h xs) ≡ w * h
   pub twice : (w h : ℕ) (xs : List X) → length xs ≡ w * h → transposed h w (transposed w h xs) ≡ xs

@@ -2,7 +2,7 @@
 use mathlib.Core.Path.{_≡_, refl, sym, ap, subst, _∙_}
 use mathlib.Core.Bool.{true}
 use mathlib.Core.List.{List}
-use Prim.Native.Nat.{ℕ, _+_, _*_, _<_}
+use Prim.Native.Nat.{ℕ, _+_, _*_}
 use native.Mathlib.Nat.{mul-comm}
 use native.Mathlib.Omega.{arith}
 use lib.ListN.{length, getD}
@@ -15,7 +15,7 @@ use Rattle.fault.proofs.Left.{left-accepted}
 use Rattle.places.proofs.Turned.{transposed-twice, transposed-cells}
 use Rattle.transpose.proofs.Accepts.{fitting, transposable-flipped}
 use Rattle.signal.specs.declared.shape.Shape.{Shape}
-use Rattle.signal.specs.Pages.{sides, shapeOf, flipped, fits, moved, Symbols, interleaved, deinterleaved}
+use Rattle.signal.specs.Pages.{sides, shapeOf, flipped, fits, moved, Symbols}
 use Rattle.signal.specs.Laws.{Restored}
 
 -- a page of this shape has n symbols

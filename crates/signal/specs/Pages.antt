@@ -2,9 +2,8 @@
 use mathlib.Core.Path.{_≡_}
 use mathlib.Core.Bool.{cond}
 use mathlib.Core.List.{List}
-use Prim.Native.Nat.{ℕ, _+_, _*_, _<_}
+use Prim.Native.Nat.{ℕ}
 use lib.Chars.{codes}
-use lib.ListN.{getD}
 use Rattle.std.specs.declared.option.Option.{Option}
 use Rattle.std.specs.declared.option.Option.the-variants.{Some, None}
 use Rattle.std.specs.declared.result.Result.the-variants.{Err}
@@ -12,7 +11,7 @@ use Rattle.std.specs.shelf.Text.{sameBytes}
 use Rattle.fault.specs.declared.Refusal.the-variants.{NoShape}
 use Rattle.fault.specs.Makers.{plain}
 use Rattle.fault.specs.Tests.{Answer}
-use Rattle.places.specs.Turn.{transposed}
+use Rattle.places.specs.Turn.{Cells, transposed}
 use Rattle.transpose.specs.Answers.{transposable}
 use Rattle.signal.specs.declared.shape.Shape.{Shape}
 
@@ -49,9 +48,8 @@ moved (Some s) xs = transposed (s .width) (s .height) xs
 
 -- symbol y * width + x of a page of this shape stands at x * height + y of what is sent
 abbrev pub Symbols : {X : Type 0} → Option Shape → List X → List X → Type 0
-Symbols {X} o page sent =
-    (s : Shape) → o ≡ Some s → (x y : ℕ) (d : X) → x < s .width → y < s .height →
-    getD sent (x * s .height + y) d ≡ getD page (y * s .width + x) d
+Symbols o page sent =
+    (s : Shape) → o ≡ Some s → Cells (s .width) (s .height) page sent
 
 -- a page as it is sent, and a page that was sent put in order again
 abbrev pub interleaved : {X : Type 0} → List ℕ → List X → List X

@@ -1,7 +1,7 @@
 //! Transposition of whole matrices, from one buffer into another.
-ghost use Prim.Native.Nat.{ℕ, _*_, _+_, _<_};
+ghost use Prim.Native.Nat.{_*_, _+_, _<_};
 ghost use Rattle.fault.specs.Tests.{afterCall};
-ghost use Rattle.places.specs.Turn.{transposed};
+ghost use Rattle.places.specs.Turn.{Cells, transposed};
 ghost use Rattle.std.specs.Results.{isOk};
 ghost use Rattle.transpose.specs.Answers.{transposable};
 ghost use lib.ListN.{getD, length, set};
@@ -40,7 +40,7 @@ pub fn transpose<T: Copy>(
 ) -> Result<(), Fault>
     ensures answer { λ r. ⌜ r ≡ transposable width height (length (now (input .entry))) (length (now (output .entry))) ⌝ }
     ensures places { λ r. ⌜ now (output .exit) ≡ afterCall r (transposed width height (now (input .entry))) (now (output .entry)) ⌝ }
-    ensures cells { λ r. ⌜ (isOk r ≡ true → (x y : ℕ) (d : T) → x < width → y < height → getD (now (output .exit)) (x * height + y) d ≡ getD (now (input .entry)) (y * width + x) d) ⌝ }
+    ensures cells { λ r. ⌜ (isOk r ≡ true → Cells width height (now (input .entry)) (now (output .exit))) ⌝ }
 {
     test_transpose(width, height, input.len(), output.len())?;
     transpose_small(input, output, width, height);
@@ -52,7 +52,7 @@ fn transpose_small<T: Copy>(input: &[T], output: &mut [T], width: usize, height:
     requires input { ⌜ length (now input) ≡ width * height ⌝ }
     requires output { ⌜ length (now output) ≡ width * height ⌝ }
     ensures places { λ _. ⌜ now (output .exit) ≡ transposed width height (now (input .entry)) ⌝ }
-    ensures cells { λ _. ⌜ ((x y : ℕ) (d : T) → x < width → y < height → getD (now (output .exit)) (x * height + y) d ≡ getD (now (input .entry)) (y * width + x) d) ⌝ }
+    ensures cells { λ _. ⌜ Cells width height (now (input .entry)) (now (output .exit)) ⌝ }
 {
     for x in 0..width {
         for y in 0..height {
