@@ -1,4 +1,6 @@
 //! Transposition of whole matrices, from one buffer into another.
+#![tactic(auto)]
+
 ghost use Rattle.std.specs.Prelude.{◌≡◌, ◌*◌, true, length, is_ok};
 ghost use Rattle.fault.specs.Tests.{after_call};
 ghost use Rattle.places.specs.Turn.{Cells, transposed};

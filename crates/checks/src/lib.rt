@@ -1,4 +1,6 @@
 //! Examples, run as tests: expected values are worked out from the rules by hand.
+#![tactic(auto)]
+
 #[cfg(test)]
 mod faults;
 #[cfg(test)]

@@ -1,4 +1,6 @@
 //! Why a call was declined: one fault type for every layer.
+#![tactic(auto)]
+
 ghost use Rattle.fault.specs.Laws.{InOrder, Made, Numbered};
 ghost use Rattle.fault.specs.Makers.{at_record, in_step, of_record, plain};
 ghost use Rattle.fault.specs.Numbers.{number_of, numbers};

@@ -1,4 +1,6 @@
 //! Transposes large frames with kernels that count, and says how many tiles it took.
+#![tactic(auto)]
+
 ghost use Rattle.std.specs.Prelude.{◌≤◌};
 
 use demo::rules::{Symbols, fill};

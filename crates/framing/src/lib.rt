@@ -1,4 +1,6 @@
 //! Frames of the antenna, transposed with kernels that count.
+#![tactic(auto)]
+
 ghost use Rattle.framing.specs.Frames.{counting, counts_of, framed};
 ghost use Rattle.fault.specs.Tests.{after_call};
 ghost use Rattle.places.specs.Turn.{transposed};

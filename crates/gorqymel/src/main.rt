@@ -1,4 +1,6 @@
 //! Carries pages of three signals through interleaving and back, and says what happened.
+#![tactic(auto)]
+
 ghost use Rattle.std.specs.Prelude.{◌≤◌};
 
 use demo::rules::{Samples, Symbols};

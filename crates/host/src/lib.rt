@@ -1,4 +1,6 @@
 //! What the C side of a receiver calls. A buffer is a pointer and a number of bytes.
+#![tactic(auto)]
+
 ghost use Rattle.fault.specs.Tests.{after_call};
 ghost use Rattle.host.specs.Status.{status_of};
 ghost use Rattle.places.specs.Turn.{transposed};

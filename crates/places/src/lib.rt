@@ -1,4 +1,6 @@
 //! The theory of places that every move rests on. There is no code here but the calls whose contracts are its laws.
+#![tactic(auto)]
+
 ghost use Rattle.places.specs.Laws.{Moving, Permuting, Transposing, Turning};
 
 /// The laws of lists of places and of orders.

@@ -1,4 +1,5 @@
 //! One complex sample of an antenna.
+#![tactic(auto)]
 
 /// The in-phase and the quadrature part, as the front end delivers them.
 #[derive(Clone, Copy, PartialEq, Eq, Debug)]

@@ -1,4 +1,6 @@
 //! Pages of navigation signals: interleaving by name, and the way back.
+#![tactic(auto)]
+
 ghost use Rattle.fault.specs.Tests.{after_call};
 ghost use Rattle.signal.specs.Laws.{Restored, Shapes};
 ghost use Rattle.signal.specs.Pages.{Shaped, Symbols, deinterleaved, fits, flipped, interleaved, moved, shape_of};

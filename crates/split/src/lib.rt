@@ -1,4 +1,6 @@
 //! The parts of a matrix that is halved along its longer side until every part is small, one after another.
+#![tactic(auto)]
+
 ghost use Rattle.split.specs.Laws.{Counted, Parted, Roomy};
 
 mod count;

@@ -1,4 +1,6 @@
 //! Copies of square tiles and other blocks of a matrix to their places in its transpose.
+#![tactic(auto)]
+
 ghost use Rattle.tile.specs.Laws.{Counting, Pasting};
 
 mod block;

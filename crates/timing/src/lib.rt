@@ -1,5 +1,7 @@
 //! One more entry for C, for the timing driver alone: the library's own moves bytes, and the original is also timed with
 //! elements of four bytes.
+#![tactic(auto)]
+
 ghost use Rattle.fault.specs.Tests.{after_call};
 ghost use Rattle.places.specs.Turn.{transposed};
 ghost use Rattle.transpose.specs.Answers.{transposable};

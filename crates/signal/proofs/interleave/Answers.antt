@@ -7,13 +7,13 @@ use Rattle.signal.proofs.interleave.Goals as goal
 pub returns : goal.returns
 returns g c =
     let o = shape_of c.args.name.now in
-    let r = c.move-page.result in
+    let r = c.move_page.result in
     let page = c.args.page.now in
     let found = c.args.output.now in
-    let new = c.move-page.new.output in
-    let call = c.move-page.ensures in
-    let answer : r ≡ fits o (length page) (length found) = call.answer ∙ ap (λ p. fits p (length page) (length found)) c.shape-of.ensures in
-    let places : new ≡ after_call r (moved o page) found = call.places ∙ ap (λ p. after_call r (moved p page) found) c.shape-of.ensures in
+    let new = c.move_page.new.output in
+    let call = c.move_page.ensures in
+    let answer : r ≡ fits o (length page) (length found) = call.answer ∙ ap (λ p. fits p (length page) (length found)) c.shape_of.ensures in
+    let places : new ≡ after_call r (moved o page) found = call.places ∙ ap (λ p. after_call r (moved p page) found) c.shape_of.ensures in
     record {
       answer = answer;
       places = places;

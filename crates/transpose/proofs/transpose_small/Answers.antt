@@ -3,8 +3,8 @@ use Rattle.places.proofs.Turned.{transposed_from, transposed_cells}
 use Rattle.transpose.proofs.Fills.{in_input, in_output, fill_more}
 use Rattle.transpose.proofs.transpose_small.Goals as goal
 
-pub copy-cell-requires : goal.copy-cell-requires
-copy-cell-requires g c =
+pub copy_cell-requires : goal.copy_cell-requires
+copy_cell-requires g c =
     let read = in_input c.args.width c.args.height c.loop-x.x c.loop-y.y c.loop-x-test.true c.loop-y-test.true in
     let written = in_output c.args.width c.args.height c.loop-x.x c.loop-y.y c.loop-x-test.true c.loop-y-test.true in
     record { input = omega arith; output = omega arith }
@@ -12,7 +12,7 @@ copy-cell-requires g c =
 pub loop-y-preserved : goal.loop-y-preserved
 loop-y-preserved g c =
     fill_more c.args.width c.args.height c.loop-x.x c.loop-y.y c.loop-x-test.true c.loop-y-test.true
-    c.args.input.now c.loop-y.output c.copy-cell.new.output (omega arith) c.copy-cell.ensures c.loop-y.invariant
+    c.args.input.now c.loop-y.output c.copy_cell.new.output (omega arith) c.copy_cell.ensures c.loop-y.invariant
 
 pub loop-x-preserved : goal.loop-x-preserved
 loop-x-preserved g c q d l = c.loop-y.invariant q d (omega arith)

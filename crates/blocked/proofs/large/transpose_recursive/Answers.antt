@@ -5,15 +5,15 @@ use Rattle.blocked.proofs.large.transpose_recursive.Goals as goal
 
 pub returns : goal.returns
 returns g c = record {
-  places = c.transpose-leaves.ensures.places
-      ∙ whole_pasted c.args.total-cols c.args.total-rows c.args.input.now _ c.new-walk.ensures c.args.output.now;
-  count = c.transpose-leaves.ensures.count
+  places = c.transpose_leaves.ensures.places
+      ∙ whole_pasted c.args.total_cols c.args.total_rows c.args.input.now _ c.new-walk.ensures c.args.output.now;
+  count = c.transpose_leaves.ensures.count
       ∙ ap (raised (g.K.TileKernel.count c.args.kernel.now))
-      (whole_counted c.args.total-cols c.args.total-rows c.args.input.now _ c.new-walk.ensures g.K.TileKernel.side);
+      (whole_counted c.args.total_cols c.args.total_rows c.args.input.now _ c.new-walk.ensures g.K.TileKernel.side);
 }
 
-pub transpose-leaves-requires : goal.transpose-leaves-requires
-transpose-leaves-requires g c = (
+pub transpose_leaves-requires : goal.transpose_leaves-requires
+transpose_leaves-requires g c = (
   search rules,
-  (c.requires.input, (c.requires.output, whole_lies c.args.total-cols c.args.total-rows c.args.input.now _ c.new-walk.ensures)),
+  (c.requires.input, (c.requires.output, whole_lies c.args.total_cols c.args.total_rows c.args.input.now _ c.new-walk.ensures)),
 )

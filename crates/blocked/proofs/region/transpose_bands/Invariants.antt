@@ -4,7 +4,7 @@ use Rattle.tile.specs.Kernels.{raised}
 use Rattle.blocked.proofs.region.transpose_bands.Given as goal
 
 -- the bands so far
-abbrev pub invariant-loop-y-tile : goal.invariant-loop-y-tile
-invariant-loop-y-tile g l =
-    (l.output ≡ pasted l.total-cols l.total-rows l.start-x l.nbr-cols l.start-y (l.y-tile * g.K.TileKernel.side) l.input l.initial.output)
-    × (g.K.TileKernel.count l.kernel ≡ raised (g.K.TileKernel.count l.initial.kernel) (l.y-tile * (l.nbr-cols / g.K.TileKernel.side)))
+abbrev pub invariant-loop-y_tile : goal.invariant-loop-y_tile
+invariant-loop-y_tile g l =
+    (l.output ≡ pasted l.total_cols l.total_rows l.start_x l.nbr_cols l.start_y (l.y_tile * g.K.TileKernel.side) l.input l.initial.output)
+    × (g.K.TileKernel.count l.kernel ≡ raised (g.K.TileKernel.count l.initial.kernel) (l.y_tile * (l.nbr_cols / g.K.TileKernel.side)))

@@ -4,8 +4,8 @@ use Rattle.blocked.proofs.region.transpose_region.Goals as goal
 
 pub returns : goal.returns
 returns g c = record {
-  places = c.transpose-parts.ensures.places
-      ∙ parts_whole c.args.total-cols c.args.total-rows c.args.input.now g.K.TileKernel.side
-      c.args.col-start (c.args.col-end - c.args.col-start) c.args.row-start (c.args.row-end - c.args.row-start) c.args.output.now;
-  count = c.transpose-parts.ensures.count;
+  places = c.transpose_parts.ensures.places
+      ∙ parts_whole c.args.total_cols c.args.total_rows c.args.input.now g.K.TileKernel.side
+      c.args.col_start (c.args.col_end - c.args.col_start) c.args.row_start (c.args.row_end - c.args.row_start) c.args.output.now;
+  count = c.transpose_parts.ensures.count;
 }

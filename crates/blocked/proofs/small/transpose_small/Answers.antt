@@ -9,6 +9,6 @@ returns-then-height-eq0 g c = record {
 
 pub returns : goal.returns
 returns g c = record {
-  places = whole_places c.args.width c.args.height c.args.input.now c.args.output.now _ c.requires.input c.requires.output c.transpose-block.ensures;
-  cells = whole_cells c.args.width c.args.height c.args.input.now c.args.output.now _ c.requires.input c.requires.output c.transpose-block.ensures;
+  places = whole_places c.args.width c.args.height c.args.input.now c.args.output.now _ c.requires.input c.requires.output c.transpose_block.ensures;
+  cells = whole_cells c.args.width c.args.height c.args.input.now c.args.output.now _ c.requires.input c.requires.output c.transpose_block.ensures;
 }

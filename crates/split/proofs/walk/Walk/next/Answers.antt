@@ -8,14 +8,14 @@ use Rattle.split.proofs.walk.Walk.next.Goals as goal
 pub returns-then-self-eq0 : goal.returns-then-self-eq0
 returns-then-self-eq0 g c = (rw c.if-self-eq0.true pending_none, refl)
 
-pub overflow-sub-here : goal.overflow-sub-here
-overflow-sub-here g c = let o = ordered _ _ c.loop-here.invariant.0 in search rules
+pub overflow_sub-here : goal.overflow_sub-here
+overflow_sub-here g c = let o = ordered _ _ c.loop-here.invariant.0 in search rules
 
-pub overflow-sub-here-in-loop-here : goal.overflow-sub-here-in-loop-here
-overflow-sub-here-in-loop-here g c = let o = ordered _ _ c.loop-here.invariant.0 in search rules
+pub overflow_sub-here-in-loop-here : goal.overflow_sub-here-in-loop-here
+overflow_sub-here-in-loop-here g c = let o = ordered _ _ c.loop-here.invariant.0 in search rules
 
-pub put-aside-requires : goal.put-aside-requires
-put-aside-requires g c =
+pub put_aside-requires : goal.put_aside-requires
+put_aside-requires g c =
     let t = turn g.row.N _ _ (sym c.loop-here-test.ensures) c.loop-here.invariant.0 in
     let h = halves_are _ _ _ c.halves.ensures in
     (search rules, (t.0, rw h.1 t.2))
@@ -26,9 +26,9 @@ loop-here-preserved g c =
     let t = turn g.row.N _ _ e c.loop-here.invariant.0 in
     let h = halves_are _ _ _ c.halves.ensures in
     let m = pending_more c.loop-here.self.waiting c.loop-here.self.count c.loop-here.here (omega arith) e in (
-      rw (h.0, c.put-aside.ensures.count) t.1,
-      ap length c.put-aside.ensures.waiting ∙ simp length-set c.loop-here.invariant.1,
-      rw (h.0, c.put-aside.ensures.count, c.put-aside.ensures.waiting, h.1) (m ∙ c.loop-here.invariant.2),
+      rw (h.0, c.put_aside.ensures.count) t.1,
+      ap length c.put_aside.ensures.waiting ∙ simp length-set c.loop-here.invariant.1,
+      rw (h.0, c.put_aside.ensures.count, c.put_aside.ensures.waiting, h.1) (m ∙ c.loop-here.invariant.2),
     )
 
 pub returns : goal.returns
