@@ -3,16 +3,15 @@
 
 # Prove the program and what it rests on, then run it.
 run:
-	rt check gorqymel
-	target/bin/gorqymel
+	cd crates/gorqymel && rt run
 
-# Prove every crate, run the program against its expected output, and prove and run the tests.
+# Prove every crate, run the programs against their expected output, and prove and run the tests.
 test:
-	rt check
+	rt all test
 
 # The same from nothing, with the layout and the edits that must be refused: what a change has to pass.
 gate:
 	.ci/run
 
 format:
-	rt fmt
+	for crate in crates/*/; do (cd "$$crate" && rt fmt) || exit 1; done

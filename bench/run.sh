@@ -4,13 +4,11 @@
 set -eu
 published=$(cd "${1:?usage: bench/run.sh FOLDER}" && pwd)
 cd "$(dirname "$0")/.."
-rt staticlib host
-rt staticlib timing
+(cd crates/host && rt lib)
+(cd crates/timing && rt lib)
 work=$(mktemp -d)
 trap 'rm -rf "$work"' EXIT
 cp bench/driver.rs "$published/src/transpose/portable.rs" "$work/"
-kit=$(dirname "$(dirname "$(rt doc)")")
 rustc --edition 2024 -C opt-level=3 -o "$work/driver" "$work/driver.rs" \
-    -C link-arg=target/staticlib/libhost.a -C link-arg=target/staticlib/libtiming.a \
-    -C link-arg="$kit/lib/librattle_c.a"
+    -C link-arg=crates/host/out/libhost.a -C link-arg=crates/timing/out/libtiming.a
 "$work/driver"

@@ -1,13 +1,12 @@
 -- A matrix that is copied leaf by leaf.
-use Rattle.std.proofs.Common.{◌≡◌, ℕ, ◌+◌, ◌-◌, ◌*◌, ◌/◌, ◌<◌, ◌≤◌, true, false, List, [], ◌∷◌, ◌++◌, sym, refl, ap, ◌∙◌, subst, ap₂, arith, rules}
+use Rattle.std.proofs.Common.{◌≡◌, ℕ, ◌+◌, ◌-◌, ◌/◌, false, List, [], ◌∷◌, ◌++◌, sym, refl, ap, ◌∙◌, subst, ap₂, arith}
 use Rattle.split.specs.declared.region.Region.{Region}
-use Rattle.split.specs.Tiles.{leaf, whole_tiles, split_tiles}
-use Rattle.split.specs.Regions.{rows, cols, region, Lies, upper, lower, left_half, right_half, first, rest, leaves, All, tiles_of}
+use Rattle.split.specs.Tiles.{leaf, split_tiles}
+use Rattle.split.specs.Regions.{rows, cols, region, Lies, first, rest, leaves, All, tiles_of}
 use Rattle.split.proofs.Tiling.{thick}
 use Rattle.split.proofs.Halving.{by_cut, by_leaves}
 use Rattle.split.proofs.Leaves.{lie, leaves-tiles}
 use Rattle.tile.specs.Blocks.{pasted}
-use Rattle.tile.specs.Kernels.{raised}
 use Rattle.tile.proofs.Pasted.{beside_more, below_more}
 use Rattle.blocked.specs.Parts.{region_pasted, leaves_pasted}
 

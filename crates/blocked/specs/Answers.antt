@@ -1,9 +1,9 @@
 -- What a count of tiles answers, from the sides.
-use Rattle.std.specs.Prelude.{ℕ, ◌*◌, ◌^◌, List, [], ◌∷◌, Ok, Err, Result, nat_le, nat_lt}
+use Rattle.std.specs.Prelude.{ℕ, ◌*◌, ◌^◌, [], ◌∷◌, Ok, Err, Result, nat_le, nat_lt}
 use Rattle.fault.specs.declared.Fault.{Fault}
 use Rattle.fault.specs.declared.Refusal.TheVariants.{TooManyCells, TooLong}
 use Rattle.fault.specs.Makers.{plain}
-use Rattle.fault.specs.Tests.{Test, Answer, declines, tested}
+use Rattle.fault.specs.Tests.{Answer, declines, tested}
 
 -- the tests of a count of tiles, in their order
 abbrev pub countable : ℕ → ℕ → Answer

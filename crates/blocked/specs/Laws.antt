@@ -1,5 +1,5 @@
 -- The tiles of a matrix in the words of the rules.
-use Rattle.std.specs.Prelude.{◌≡◌, ℕ, ◌+◌, ◌-◌, ◌*◌, ◌/◌, ◌<◌, ◌≤◌}
+use Rattle.std.specs.Prelude.{◌≡◌, ℕ, ◌*◌, ◌/◌, ◌<◌, ◌≤◌}
 use Rattle.split.specs.Tiles.{split_tiles}
 use Rattle.blocked.specs.Paths.{path_of, tiles_for, tiled_count, leaf_count}
 

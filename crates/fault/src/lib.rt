@@ -7,7 +7,6 @@ ghost use Rattle.fault.specs.Numbers.{number_of, numbers};
 ghost use Rattle.std.specs.Prelude.{◌≡◌, ◌==◌};
 ghost use Rattle.std.specs.Cmp.Rules.{comparing};
 ghost use Rattle.std.proofs.Common.{rules};
-ghost use Rattle.std.specs.Cmp as Keys;
 
 mod words;
 
@@ -73,7 +72,7 @@ impl Refusal {
 impl PartialEq for Refusal {
     ghost eq = { λ a b. (number_of a == number_of b) };
 
-    ghost laws = { Keys.partial_equiv_from_equiv (Prim.search (comparing, rules)) };
+    ghost laws = { Prim.search (comparing, rules) };
 
     fn eq(&self, other: &Refusal) -> bool {
         self.number() == other.number()

@@ -5,7 +5,7 @@ use Rattle.std.proofs.lemmas.Bool.{cases_Bool, cases_lt, cond-true, cond-false, 
 use Rattle.split.specs.Tiles.{leaf}
 use Rattle.split.proofs.Tiling.{thick}
 use Rattle.split.specs.declared.region.Region.{Region}
-use Rattle.split.specs.Regions.{rows, cols, Ordered, region, upper, lower, left_half, right_half, first, rest, deep, sound, leaves_within, leaves, pending}
+use Rattle.split.specs.Regions.{rows, cols, Ordered, upper, lower, left_half, right_half, first, rest, deep, sound, leaves_within, leaves, pending}
 use Rattle.split.proofs.Room.{deep_halved, halves_rows, halves_cols, deep_more}
 
 cond_pair : {A : Type 0} (b : Bool) (x y u v : A) (P : A → A → Type 0) → (b ≡ true → P x u) → (b ≡ false → P y v) →

@@ -1,10 +1,10 @@
 -- The leaves of a region: what holds of them all, where they lie, and their tiles.
-use Rattle.std.proofs.Common.{◌≡◌, ℕ, ◌+◌, ◌-◌, ◌*◌, ◌/◌, ◌<◌, ◌≤◌, Bool, true, false, cond, leb, List, [], ◌∷◌, ◌++◌, sym, ap, ◌∙◌, ap₂, arith, rules}
+use Rattle.std.proofs.Common.{◌≡◌, ℕ, ◌+◌, true, false, cond, List, [], ◌∷◌, ◌++◌, sym, ◌∙◌, ap₂, arith, rules}
 use Rattle.std.proofs.lemmas.Bool.{le-leb, lt-leb, leb-true, leb-false}
 use Rattle.std.proofs.lemmas.Bool.Decides.{nat_tests}
 use Rattle.split.specs.declared.region.Region.{Region}
 use Rattle.split.specs.Tiles.{leaf, split_tiles}
-use Rattle.split.specs.Regions.{rows, cols, has, Lies, Halves, upper, lower, left_half, right_half, first, rest, leaves, All, holders, tiles_of}
+use Rattle.split.specs.Regions.{rows, cols, has, Lies, Halves, first, rest, leaves, All, holders, tiles_of}
 use Rattle.split.specs.Laws.{Counted, Parted}
 use Rattle.split.proofs.Tiling.{thick, at_leaf, by_rows, by_cols}
 use Rattle.split.proofs.Halving.{by_cut, by_sizes, by_leaves}

@@ -1,6 +1,6 @@
 //! Two more kernels, with the smallest and the largest side there may be.
 ghost use Rattle.std.specs.Prelude.{◌^◌, ◌<◌};
-ghost use Rattle.std.proofs.Common.{rules, arith};
+ghost use Rattle.std.proofs.Common.{rules};
 
 use fault::Fault;
 use tile::{TileKernel, test_tile, transpose_block};
@@ -19,9 +19,9 @@ impl TileKernel for One {
 
     ghost count = { λ k. k.count };
 
-    ghost bounded = { first_of (Prim.search rules, Prim.grind (arith, Self.row.coded.inj)) };
+    ghost bounded = { Prim.search rules };
 
-    ghost below = { first_of (Prim.search rules, Prim.grind (arith, Self.row.coded.inj)) };
+    ghost below = { Prim.search rules };
 
     fn edge() -> usize {
         Self::SIDE
@@ -79,9 +79,9 @@ impl TileKernel for Wide {
 
     ghost count = { λ k. k.count };
 
-    ghost bounded = { first_of (Prim.search rules, Prim.grind (arith, Self.row.coded.inj)) };
+    ghost bounded = { Prim.search rules };
 
-    ghost below = { first_of (Prim.search rules, Prim.grind (arith, Self.row.coded.inj)) };
+    ghost below = { Prim.search rules };
 
     fn edge() -> usize {
         Self::SIDE

@@ -1,4 +1,4 @@
-use Rattle.std.proofs.Common.{◌+◌, ◌*◌, ◌≤◌, length, sym, arith, rules}
+use Rattle.std.proofs.Common.{sym, arith, rules}
 use Rattle.tile.proofs.Pasted.{no_column}
 use Rattle.tile.proofs.Runs.{run_ends, run_long, rows_in, column_more}
 use Rattle.tile.proofs.block.transpose_block.Goals as goal
