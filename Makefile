@@ -9,7 +9,7 @@ run:
 test:
 	rt all test
 
-# The same from nothing, with the layout and the edits that must be refused: what a change has to pass.
+# The same, with the layout and the edits that must be refused: what a change has to pass.
 gate:
 	.ci/run
 

@@ -3,13 +3,11 @@ use crate::kernels::{One, Wide};
 use blocked::{tiles, transpose};
 use split::{Region, Walk};
 use std::alloc::Global;
-use std::process::Abort;
 use std::test::Fail;
 use tile::{Plain, Segmented, TileKernel};
 
 /// Numbers a matrix, transposes it and compares every cell.
 fn moves<K: TileKernel, L: TileKernel>(
-    rt: &impl Abort,
     heap: Global,
     width: usize,
     height: usize,
@@ -27,11 +25,15 @@ fn moves<K: TileKernel, L: TileKernel>(
     for x in 0..width {
         for y in 0..height {
             let from = y.wrapping_mul(width).wrapping_add(x);
-            assert!(rt; output.get(at).copied() == Some((from & 0xffff_ffff) as u32));
+            if output.get(at).copied() != Some((from & 0xffff_ffff) as u32) {
+                return Err(Fail::new("a cell is misplaced"));
+            }
             at = at.wrapping_add(1);
         }
     }
-    assert_eq!(rt; at, cells);
+    if at != cells {
+        return Err(Fail::new("there are too few or too many cells"));
+    }
     Ok(())
 }
 
@@ -55,7 +57,7 @@ fn counted(rt: HostRuntime) -> Result<(), Fail> {
         let mut tiled = Plain::new(0);
         let mut leaf = Segmented::new(0);
         let announced = tiles(width, height, &tiled, &leaf)?;
-        moves(&rt, rt.alloc(), width, height, &mut tiled, &mut leaf)?;
+        moves(rt.alloc(), width, height, &mut tiled, &mut leaf)?;
         assert_eq!(rt; tiled.moved(), by_region);
         assert_eq!(rt; leaf.moved(), by_leaves);
         assert_eq!(rt; announced, by_region.max(by_leaves));
@@ -75,8 +77,8 @@ fn thin(rt: HostRuntime) -> Result<(), Fail> {
         for length in lengths {
             let mut tiled = Plain::new(0);
             let mut leaf = Segmented::new(0);
-            moves(&rt, rt.alloc(), side, length, &mut tiled, &mut leaf)?;
-            moves(&rt, rt.alloc(), length, side, &mut tiled, &mut leaf)?;
+            moves(rt.alloc(), side, length, &mut tiled, &mut leaf)?;
+            moves(rt.alloc(), length, side, &mut tiled, &mut leaf)?;
             assert_eq!(rt; tiled.moved(), 0);
             assert_eq!(rt; leaf.moved(), 0);
         }
@@ -97,11 +99,11 @@ fn other_sides(rt: HostRuntime) -> Result<(), Fail> {
     for (width, height, first, second) in cases {
         let mut one = One { count: 0 };
         let mut wide = Wide { count: 0 };
-        moves(&rt, rt.alloc(), width, height, &mut one, &mut wide)?;
+        moves(rt.alloc(), width, height, &mut one, &mut wide)?;
         assert_eq!(rt; (one.count, wide.count), first);
         let mut one = One { count: 0 };
         let mut wide = Wide { count: 0 };
-        moves(&rt, rt.alloc(), width, height, &mut wide, &mut one)?;
+        moves(rt.alloc(), width, height, &mut wide, &mut one)?;
         assert_eq!(rt; (wide.count, one.count), second);
     }
     Ok(())
