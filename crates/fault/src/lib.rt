@@ -68,7 +68,7 @@ impl Refusal {
     }
 }
 
-// Written out, since a derived test of so many cases promises nothing. Two refusals with one number are the same.
+// Written out, so that the promise speaks of the numbers. Two refusals with one number are the same.
 impl PartialEq for Refusal {
     ghost eq = { λ a b. (number_of a == number_of b) };
 
