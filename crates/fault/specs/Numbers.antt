@@ -2,6 +2,9 @@
 use Rattle.std.specs.Prelude.{ℕ, cond, Some, None, Option, ◌==◌, nat_lt}
 use Rattle.fault.specs.declared.Refusal.{Refusal}
 use Rattle.fault.specs.declared.Refusal.TheVariants.{TooManyCells, InputLength, OutputLength, SquareSides, SquareOutside, NotPowerOfTwo, BitLength, BlockLength, Outside, NoRecord, BadRecord, TooManySteps, TooLong, StepRefused, FittedLength, NoShape, TableBytes}
+use Rattle.fault.specs.declared.Layer.{Layer}
+use Rattle.fault.specs.declared.Layer.TheVariants.{Tile, Move, Plan, Signal}
+use Rattle.fault.specs.declared.DeclinedStep.{DeclinedStep}
 use Rattle.fault.specs.declared.Fault.{Fault}
 
 abbrev pub number_of : Refusal → ℕ
@@ -27,9 +30,20 @@ number_of TableBytes = 17
 abbrev pub layer_of : ℕ → ℕ
 layer_of n = cond (nat_lt n 9) 2 (cond (n == 9) 1 (cond (n == 16) 4 3))
 
-abbrev pub cause_of : Option Refusal → ℕ
+abbrev pub layer_number : Layer → ℕ
+layer_number Tile = 1
+layer_number Move = 2
+layer_number Plan = 3
+layer_number Signal = 4
+
+-- the step that was declined, counted from 1, and the number of the refusal for which it was; 0 for none
+abbrev pub step_of : Option DeclinedStep → ℕ
+step_of None = 0
+step_of (Some below) = below.step
+
+abbrev pub cause_of : Option DeclinedStep → ℕ
 cause_of None = 0
-cause_of (Some below) = number_of below
+cause_of (Some below) = number_of below.cause
 
 -- what a fault says: its number, the layer, the record and the step of the plan that it names,
 -- and the number of the refusal below; 0 for what it does not name
@@ -41,4 +55,4 @@ pub record Numbers : Type 0 where
   pub cause_no : ℕ
 
 abbrev pub numbers : Fault → Numbers
-numbers f = record { number = number_of f.refusal; layer = layer_of (number_of f.refusal); record_no = f.«record»; step_no = f.step; cause_no = cause_of f.cause }
+numbers f = record { number = number_of f.refusal; layer = layer_of (number_of f.refusal); record_no = f.«record»; step_no = step_of f.below; cause_no = cause_of f.below }

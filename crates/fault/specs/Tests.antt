@@ -27,3 +27,8 @@ after_call r new found = cond (is_ok r) new found
 abbrev pub and_then : Answer → Answer → Answer
 and_then (Ok u) second = second
 and_then (Err f) second = Err f
+
+-- a value where the call was accepted, its fault where it was declined
+abbrev pub answering : {X : Type 0} → Answer → X → Result X Fault
+answering (Ok u) x = Ok x
+answering (Err f) x = Err f

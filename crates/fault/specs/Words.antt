@@ -2,8 +2,9 @@
 use Rattle.std.specs.Prelude.{ℕ, cond, List, [], ◌++◌, Some, None, codes, decimal, Option, ◌==◌}
 use Rattle.fault.specs.declared.Refusal.{Refusal}
 use Rattle.fault.specs.declared.Refusal.TheVariants.{TooManyCells, InputLength, OutputLength, SquareSides, SquareOutside, NotPowerOfTwo, BitLength, BlockLength, Outside, NoRecord, BadRecord, TooManySteps, TooLong, StepRefused, FittedLength, NoShape, TableBytes}
+use Rattle.fault.specs.declared.DeclinedStep.{DeclinedStep}
 use Rattle.fault.specs.declared.Fault.{Fault}
-use Rattle.fault.specs.Numbers.{number_of}
+use Rattle.fault.specs.Numbers.{number_of, step_of}
 use Rattle.fault.specs.Makers.{of_record}
 
 -- what was refused
@@ -37,9 +38,9 @@ position r i k = cond (of_record r)
     (cond (number_of r == 14) (codes "record " ++ (decimal i ++ (codes ", step " ++ (decimal k ++ codes ", ")))) [])
 
 -- " (refusal 2: ..)" for the refusal below
-abbrev pub because : Option Refusal → List ℕ
+abbrev pub because : Option DeclinedStep → List ℕ
 because None = []
-because (Some c) = codes " (" ++ (reason c ++ codes ")")
+because (Some below) = codes " (" ++ (reason below.cause ++ codes ")")
 
 abbrev pub line : Fault → List ℕ
-line f = position f.refusal f.«record» f.step ++ (reason f.refusal ++ because f.cause)
+line f = position f.refusal f.«record» (step_of f.below) ++ (reason f.refusal ++ because f.below)

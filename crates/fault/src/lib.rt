@@ -3,15 +3,13 @@
 
 ghost use Rattle.fault.specs.Laws.{InOrder, Made, Numbered};
 ghost use Rattle.fault.specs.Makers.{at_record, in_step, of_record, plain};
-ghost use Rattle.fault.specs.Numbers.{number_of, numbers};
-ghost use Rattle.std.specs.Prelude.{◌≡◌, ◌==◌};
-ghost use Rattle.std.specs.Cmp.Rules.{comparing};
-ghost use Rattle.std.proofs.Common.{rules};
+ghost use Rattle.fault.specs.Numbers.{layer_of, layer_number, number_of, numbers};
+ghost use Rattle.std.specs.Prelude.{◌≡◌};
 
 mod words;
 
 /// The ways to decline, each with its number.
-#[derive(Clone, Copy, Eq, Debug)]
+#[derive(Clone, Copy, Debug, PartialEq, Eq)]
 pub enum Refusal {
     /// Width times height is 2^64 or more.
     TooManyCells = 1,
@@ -50,11 +48,36 @@ pub enum Refusal {
 }
 
 impl Refusal {
-    /// The number of the refusal, from 1 to 17.
+    /// The number of the refusal, from 1 to 17: its discriminant, which only `as` reads.
     pub fn number(self) -> u8
         ensures { result ≡ number_of self }
     {
         self as u8
+    }
+
+    /// Who declines for this reason.
+    fn layer(self) -> Layer
+        ensures { layer_number result ≡ layer_of (number_of self) }
+    {
+        match self {
+            Refusal::Outside => Layer::Tile,
+            Refusal::TooManyCells
+            | Refusal::InputLength
+            | Refusal::OutputLength
+            | Refusal::SquareSides
+            | Refusal::SquareOutside
+            | Refusal::NotPowerOfTwo
+            | Refusal::BitLength
+            | Refusal::BlockLength => Layer::Move,
+            Refusal::NoRecord
+            | Refusal::BadRecord
+            | Refusal::TooManySteps
+            | Refusal::TooLong
+            | Refusal::StepRefused
+            | Refusal::FittedLength
+            | Refusal::TableBytes => Layer::Plan,
+            Refusal::NoShape => Layer::Signal,
+        }
     }
 
     /// Whether the refusal is about one record of a plan's table.
@@ -68,24 +91,33 @@ impl Refusal {
     }
 }
 
-// Written out, so that the promise speaks of the numbers. Two refusals with one number are the same.
-impl PartialEq for Refusal {
-    ghost eq = { λ a b. (number_of a == number_of b) };
+/// Who declines, each with its number.
+#[derive(Clone, Copy)]
+enum Layer {
+    /// A row or a tile.
+    Tile = 1,
+    /// A move of the elements.
+    Move = 2,
+    /// A plan.
+    Plan = 3,
+    /// A signal.
+    Signal = 4,
+}
 
-    ghost laws = { Prim.search (comparing, rules) };
-
-    fn eq(&self, other: &Refusal) -> bool {
-        self.number() == other.number()
-    }
+/// The step of a plan that was declined, and the refusal for which it was.
+#[derive(Clone, Copy, PartialEq, Eq, Debug)]
+struct DeclinedStep {
+    step: u32,
+    cause: Refusal,
 }
 
 /// A refusal with the record and the step of the plan that it names, and what was declined below it.
 #[derive(Clone, Copy, PartialEq, Eq, Debug)]
 pub struct Fault {
     refusal: Refusal,
+    // 0 for none: the five numbers say all of a fault (the law `Numbered`), and could not tell `None` from `Some(0)`.
     record: u32,
-    step: u32,
-    cause: Option<Refusal>,
+    below: Option<DeclinedStep>,
 }
 
 impl Fault {
@@ -96,8 +128,7 @@ impl Fault {
         Fault {
             refusal,
             record: 0,
-            step: 0,
-            cause: None,
+            below: None,
         }
     }
 
@@ -120,11 +151,15 @@ impl Fault {
     {
         Fault {
             record,
-            step,
-            cause: Some(below.refusal),
+            below: Some(DeclinedStep {
+                step,
+                cause: below.refusal,
+            }),
             ..Fault::new(Refusal::StepRefused)
         }
     }
+
+    // The rules tell a fault by five numbers, with 0 for what it does not name: so answer the calls below.
 
     /// Which refusal it is.
     pub fn refusal(&self) -> Refusal
@@ -137,33 +172,15 @@ impl Fault {
     pub fn number(&self) -> u8
         ensures { result ≡ (numbers self.now).number }
     {
-        let refusal = self.refusal();
-        refusal.number()
+        self.refusal.number()
     }
 
     /// The layer that declines: 1 a row or a tile, 2 a move, 3 a plan, 4 a signal.
     pub fn layer(&self) -> u8
         ensures { result ≡ (numbers self.now).layer }
     {
-        match self.refusal {
-            Refusal::Outside => 1,
-            Refusal::TooManyCells
-            | Refusal::InputLength
-            | Refusal::OutputLength
-            | Refusal::SquareSides
-            | Refusal::SquareOutside
-            | Refusal::NotPowerOfTwo
-            | Refusal::BitLength
-            | Refusal::BlockLength => 2,
-            Refusal::NoRecord
-            | Refusal::BadRecord
-            | Refusal::TooManySteps
-            | Refusal::TooLong
-            | Refusal::StepRefused
-            | Refusal::FittedLength
-            | Refusal::TableBytes => 3,
-            Refusal::NoShape => 4,
-        }
+        // the discriminant, as of a refusal
+        self.refusal.layer() as u8
     }
 
     /// The record that the fault names, or 0.
@@ -177,21 +194,27 @@ impl Fault {
     pub fn step(&self) -> u32
         ensures { result ≡ (numbers self.now).step_no }
     {
-        self.step
+        self.below.map_or(0, |below| below.step)
     }
 
     /// The number of the refusal below this one, or 0.
     pub fn cause(&self) -> u8
         ensures { result ≡ (numbers self.now).cause_no }
     {
-        match self.cause {
-            Some(below) => below.number(),
-            None => 0,
-        }
+        self.below.map_or(0, |below| below.cause.number())
+    }
+}
+
+impl From<Refusal> for Fault {
+    ghost from_gives = { λ refusal fault. fault ≡ plain refusal };
+
+    fn from(refusal: Refusal) -> Fault {
+        Fault::new(refusal)
     }
 }
 
 /// The laws of the numbers, of what a fault names, and of tests that are made in order.
+#[tactic(auto, using(crate::proofs::Numbered::numbered, crate::proofs::Numbered::made, crate::proofs::Ordered::in_order))]
 pub fn refusals_stand()
     ensures numbered { Numbered }
     ensures made { Made }

@@ -1,4 +1,5 @@
 //! Faults in words, each as one line.
+ghost use Rattle.fault.specs.Numbers.{step_of};
 ghost use Rattle.fault.specs.Words.{because, line, position, reason, words_of};
 ghost use Rattle.std.specs.Prelude.{◌≡◌, Some};
 
@@ -35,47 +36,23 @@ impl fmt::Display for Refusal {
     ghost output = { λ r. Some (reason r) };
 
     fn fmt<W: fmt::Write>(&self, f: &mut fmt::Formatter<W>) -> fmt::Result {
-        let number = self.number();
-        let text = words(*self);
-        write!(f, "refusal {number}: {text}")
+        write!(f, "refusal {}: {}", self.number(), words(*self))
     }
 }
 
 /// Where in a plan a fault lies, as the start of its line.
 #[derive(Clone, Copy)]
-struct Position {
-    refusal: Refusal,
-    record: u32,
-    step: u32,
-}
+struct Position(Fault);
 
 impl fmt::Display for Position {
-    ghost output = { λ p. Some (position p.refusal p.«record» p.step) };
+    ghost output = { λ p. Some (position p.0.refusal p.0.«record» (step_of p.0.below)) };
 
     fn fmt<W: fmt::Write>(&self, f: &mut fmt::Formatter<W>) -> fmt::Result {
-        let record = self.record;
-        let step = self.step;
-        if self.refusal.of_record() {
-            return write!(f, "record {record}, ");
-        }
-        match self.refusal {
-            Refusal::StepRefused => write!(f, "record {record}, step {step}, "),
+        let fault = self.0;
+        match fault.refusal {
+            Refusal::StepRefused => write!(f, "record {}, step {}, ", fault.record, fault.step()),
+            refusal if refusal.of_record() => write!(f, "record {}, ", fault.record),
             _ => Ok(()),
-        }
-    }
-}
-
-/// The refusal below, as the end of a line.
-#[derive(Clone, Copy)]
-struct Because(Option<Refusal>);
-
-impl fmt::Display for Because {
-    ghost output = { λ b. Some (because b.0) };
-
-    fn fmt<W: fmt::Write>(&self, f: &mut fmt::Formatter<W>) -> fmt::Result {
-        match self.0 {
-            Some(below) => write!(f, " ({below})"),
-            None => Ok(()),
         }
     }
 }
@@ -84,14 +61,11 @@ impl fmt::Display for Fault {
     ghost output = { λ x. Some (line x) };
 
     fn fmt<W: fmt::Write>(&self, f: &mut fmt::Formatter<W>) -> fmt::Result {
-        let refusal = self.refusal;
-        let position = Position {
-            refusal,
-            record: self.record,
-            step: self.step,
-        };
-        let because = Because(self.cause);
-        write!(f, "{position}{refusal}{because}")
+        let position = Position(*self);
+        match self.below {
+            Some(below) => write!(f, "{position}{} ({})", self.refusal, below.cause),
+            None => write!(f, "{position}{}", self.refusal),
+        }
     }
 }
 
