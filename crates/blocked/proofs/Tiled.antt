@@ -1,17 +1,17 @@
 -- Tiles side by side, bands one below the other, and a region from its parts.
-use Rattle.std.proofs.Common.{◌≡◌, ℕ, ◌+◌, ◌-◌, ◌*◌, ◌^◌, ◌<◌, ◌≤◌, List, length, get_or, sym, ap, ◌∙◌, ap₂, arith}
-use Rattle.std.proofs.lemmas.Nat.{mul-le, div-add-mod'}
-use Rattle.places.specs.Turn.{Cells, transposed}
-use Rattle.places.proofs.Turned.{transposed_cells, transposed_from}
-use Rattle.split.specs.Tiles.{whole_tiles}
+use Rattle.std.proofs.Common.{◌≡◌, ℕ, ◌+◌, ◌-◌, ◌*◌, ◌^◌, ◌<◌, ◌≤◌, List, sym, ap, ◌∙◌, arith}
+use Rattle.std.proofs.lemmas.Nat.{div-add-mod'}
 use Rattle.tile.specs.Blocks.{pasted}
 use Rattle.tile.specs.Kernels.{raised}
-use Rattle.tile.proofs.Pasted.{beside, above, beside_more, below_more, no_column, no_row, whole}
-use Rattle.blocked.specs.Parts.{in_tiles, band_pasted, parts_pasted}
+use Rattle.tile.proofs.Pasted.{beside, above, beside_more, below_more, no_column, no_row}
+use Rattle.transpose.proofs.Whole.{whole_places, whole_cells}
+use Rattle.blocked.specs.Parts.{in_tiles, band_pasted}
 
--- the k-th of n parts of this side ends within them
-pub part_ends : (n side k : ℕ) → k < n → k * side + side ≤ n * side
-part_ends n side k h = omega (arith, mul-le (k + 1) side n side (omega arith) (omega arith))
+-- a region: the rows below the whole bands, which are the bottom edge with the corner, then the bands
+abbrev pub parts_pasted : {X : Type 0} → ℕ → ℕ → ℕ → ℕ → ℕ → ℕ → ℕ → List X → List X → List X
+parts_pasted side cols rows x wide y high input output =
+    pasted cols rows x wide y (in_tiles side high) input
+    (pasted cols rows x wide (y + in_tiles side high) (high - in_tiles side high) input output)
 
 -- whole tiles end within what they are in
 pub tiles_end : (side n : ℕ) → in_tiles side n ≤ n
@@ -28,7 +28,7 @@ module _ {X : Type 0} (c r : ℕ) (input : List X) where
   pub no_bands : (x w y s : ℕ) (old : List X) → old ≡ pasted c r x w y (0 * s) input old
   no_bands x w y s old = let e : 0 ≡ 0 * s = omega arith in sym (no_row c r input x w y old) ∙ ap (λ n. pasted c r x w y n input old) e
 
-  -- one tile more; the code has the side as e
+  -- one tile more; the code reads the side as e
   pub tile_more : (x s y k e : ℕ) (old mid new : List X) → e ≡ s → mid ≡ pasted c r x (k * s) y s input old →
       new ≡ pasted c r (x + k * e) s y s input mid → new ≡ pasted c r x ((k + 1) * s) y s input old
   tile_more x s y k e old mid new f a b =
@@ -55,32 +55,5 @@ module _ {X : Type 0} (c r : ℕ) (input : List X) where
       let e : in_tiles side h + (h - in_tiles side h) ≡ h = omega arith in
       above c r input x w y (in_tiles side h) (h - in_tiles side h) old ∙ ap (λ n. pasted c r x w y n input old) e
 
-less_none : (n : ℕ) → n - 0 ≡ n
-less_none n = omega arith
-
--- a region from the first row and column on
-pub tiles_from_0 : (n side w h : ℕ) → raised n (whole_tiles side (h - 0) (w - 0)) ≡ raised n (whole_tiles side h w)
-tiles_from_0 n side w h = ap₂ (λ a b. raised n (whole_tiles side a b)) (less_none h) (less_none w)
-
--- the region of all cells is the transposed matrix
-module _ {X : Type 0} (w h : ℕ) (input old new : List X) (i : length input ≡ w * h) (o : length old ≡ w * h) (e : new ≡ pasted w h 0 w 0 h input old) where
-  pub whole_places : new ≡ transposed w h input
-  whole_places = e ∙ whole w h input old i o
-
-  pub whole_cells : Cells w h input new
-  whole_cells x y d a b =
-      ap (λ l. get_or l (x * h + y) d) whole_places ∙ transposed_cells w h input i x y d a b
-
-module _ {X : Type 0} (w h : ℕ) (input old : List X) where
-  pub pasted_from_0 : pasted w h 0 (w - 0) 0 (h - 0) input old ≡ pasted w h 0 w 0 h input old
-  pasted_from_0 = ap₂ (λ a b. pasted w h 0 a 0 b input old) (less_none w) (less_none h)
-
--- a matrix of no cells is its transpose
-module _ {X : Type 0} (w h : ℕ) (input output : List X) (i : length input ≡ w * h) (o : length output ≡ w * h) (e : h ≡ 0) where
-  pub none_places : output ≡ transposed w h input
-  none_places =
-      let z = ap (λ n. w * n) e in
-      transposed_from w h input i output o (λ q d l. absurd (omega arith))
-
-  pub none_cells : Cells w h input output
-  none_cells x y d a b = absurd (omega arith)
+-- what the copy of all cells is, for a function that names these rules
+pub ruleset whole_rules = (whole_places, whole_cells)

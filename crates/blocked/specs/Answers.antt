@@ -1,6 +1,5 @@
 -- What a count of tiles answers, from the sides.
-use Rattle.std.specs.Prelude.{ℕ, ◌*◌, ◌^◌, [], ◌∷◌, Ok, Err, Result, nat_le, nat_lt}
-use Rattle.fault.specs.declared.Fault.{Fault}
+use Rattle.std.specs.Prelude.{ℕ, ◌*◌, ◌^◌, [], ◌∷◌, nat_le, nat_lt}
 use Rattle.fault.specs.declared.Refusal.TheVariants.{TooManyCells, TooLong}
 use Rattle.fault.specs.Makers.{plain}
 use Rattle.fault.specs.Tests.{Answer, declines, tested}
@@ -10,8 +9,3 @@ abbrev pub countable : ℕ → ℕ → Answer
 countable width height = tested (
     declines (nat_le (2 ^ 64) (width * height)) (plain TooManyCells)
     ∷ declines (nat_lt 16777216 (width * height)) (plain TooLong) ∷ [])
-
--- the number n where the tests accept
-abbrev pub answering : Answer → ℕ → Result ℕ Fault
-answering (Ok u) n = Ok n
-answering (Err f) n = Err f

@@ -14,12 +14,6 @@ band_pasted side cols rows x wide y input output =
     pasted cols rows (x + in_tiles side wide) (wide - in_tiles side wide) y side input
     (pasted cols rows x (in_tiles side wide) y side input output)
 
--- a region: the rows below the whole bands, which are the bottom edge with the corner, then the bands
-abbrev pub parts_pasted : {X : Type 0} → ℕ → ℕ → ℕ → ℕ → ℕ → ℕ → ℕ → List X → List X → List X
-parts_pasted side cols rows x wide y high input output =
-    pasted cols rows x wide y (in_tiles side high) input
-    (pasted cols rows x wide (y + in_tiles side high) (high - in_tiles side high) input output)
-
 -- a region that is given as a record
 abbrev pub region_pasted : {X : Type 0} → ℕ → ℕ → List X → Region → List X → List X
 region_pasted cols rows input r output =

@@ -2,25 +2,18 @@
 use Rattle.std.specs.Prelude.{ℕ, ◌*◌, cond, nat_le}
 use Rattle.split.specs.Tiles.{whole_tiles, split_tiles}
 use Rattle.tile.specs.Kernels.{raised}
-
--- the ways to copy a matrix
-pub data Path : Type 0 where
-  -- cell by cell
-  single : Path
-  -- as one region of tiles
-  tiled : Path
-  -- split into leaves, each a region of tiles
-  split : Path
+use Rattle.blocked.specs.declared.path.Path.{Path}
+use Rattle.blocked.specs.declared.path.Path.TheVariants.{Single, Tiled, Split}
 
 -- by the number of cells
 abbrev pub path_of : ℕ → Path
-path_of cells = cond (nat_le cells 255) single (cond (nat_le cells 1048576) tiled split)
+path_of cells = cond (nat_le cells 255) Single (cond (nat_le cells 1048576) Tiled Split)
 
 -- the tiles of a way, for a kernel of side s that tiles a region and one of side t that tiles leaves
 abbrev pub tiles_on : ℕ → ℕ → ℕ → ℕ → Path → ℕ
-tiles_on s t width height single = 0
-tiles_on s t width height tiled = whole_tiles s height width
-tiles_on s t width height split = split_tiles t height width
+tiles_on s t width height Single = 0
+tiles_on s t width height Tiled = whole_tiles s height width
+tiles_on s t width height Split = split_tiles t height width
 
 -- the tiles of a matrix, for such a pair of kernels
 abbrev pub tiles_for : ℕ → ℕ → ℕ → ℕ → ℕ
@@ -28,12 +21,12 @@ tiles_for s t width height = tiles_on s t width height (path_of (width * height)
 
 -- the count of the kernel that tiles a region, after a copy of n tiles
 abbrev pub tiled_count : Path → ℕ → ℕ → ℕ
-tiled_count single count n = count
-tiled_count tiled count n = raised count n
-tiled_count split count n = count
+tiled_count Single count n = count
+tiled_count Tiled count n = raised count n
+tiled_count Split count n = count
 
 -- the count of the kernel that tiles leaves, after a copy of n tiles
 abbrev pub leaf_count : Path → ℕ → ℕ → ℕ
-leaf_count single count n = count
-leaf_count tiled count n = count
-leaf_count split count n = raised count n
+leaf_count Single count n = count
+leaf_count Tiled count n = count
+leaf_count Split count n = raised count n

@@ -1,6 +1,7 @@
 -- Counts of tiles that were worked out by hand.
 use Rattle.std.specs.Prelude.{◌≡◌, ℕ, List, [], ◌∷◌, Ok}
-use Rattle.blocked.specs.Answers.{countable, answering}
+use Rattle.fault.specs.Tests.{answering}
+use Rattle.blocked.specs.Answers.{countable}
 use Rattle.blocked.specs.Paths.{tiles_for}
 
 pub data Count : Type 0 where

@@ -1,4 +1,4 @@
-//! Large matrices, leaf by leaf. All of it is inner: both buffers hold the matrix.
+//! Large matrices, leaf by leaf. All of it is inner: the output holds the matrix, and stays an argument as in `region.rt`.
 ghost use Rattle.std.specs.Prelude.{◌≡◌, ◌+◌, ◌*◌, ◌^◌, ◌<◌, ◌≤◌, length};
 ghost use Rattle.places.specs.Turn.{Cells, transposed};
 ghost use Rattle.split.specs.Left.{left};
@@ -9,6 +9,7 @@ ghost use Rattle.tile.specs.Kernels.{raised};
 ghost use Rattle.blocked.specs.Parts.{leaves_pasted};
 
 use crate::region::transpose_region;
+use matrix::{Block, Matrix};
 use split::{Region, Walk};
 use tile::TileKernel;
 
@@ -17,74 +18,67 @@ const WAITING: usize = 64;
 
 /// Copies the leaves that a walk has yet to yield, each as a region. Inner: they lie in the matrix.
 fn transpose_leaves<T: Copy, K: TileKernel, const N: usize>(
-    input: &[T],
+    matrix: Matrix<'_, T>,
     output: &mut [T],
-    walk: &mut Walk<N>,
-    total_cols: usize,
-    total_rows: usize,
+    walk: Walk<N>,
     kernel: &mut K,
 )
-    requires input { length input.now ≡ total_cols * total_rows }
-    requires output { length output.old ≡ total_cols * total_rows }
-    requires lie { All (Lies total_cols total_rows) (left walk.old) }
-    ensures places { output.new ≡ leaves_pasted total_cols total_rows input.now (left walk.old) output.old }
-    ensures count { K.TileKernel.count kernel.new ≡ raised (K.TileKernel.count kernel.old) (tiles_of K.TileKernel.side (left walk.old)) }
+    requires output { length output.old ≡ matrix.width * matrix.height }
+    requires lie { All (Lies matrix.width matrix.height) (left walk) }
+    ensures places { output.new ≡ leaves_pasted matrix.entry.width matrix.entry.height matrix.entry.cells.now (left walk.entry) output.old }
+    ensures count { K.TileKernel.count kernel.new ≡ raised (K.TileKernel.count kernel.old) (tiles_of K.SIDE (left walk.entry)) }
 {
-    while let Some(
-        Region {
-            row_start,
-            row_end,
-            col_start,
-            col_end,
-        },
-    ) = walk.next()
-    {
-        transpose_region(
-            input, output, row_start, row_end, col_start, col_end, total_cols, total_rows, kernel,
-        );
+    for Region {
+        row_start,
+        row_end,
+        col_start,
+        col_end,
+    } in walk {
+        // no `From`: only an ordered region is a block
+        let leaf = Block {
+            x: col_start,
+            y: row_start,
+            wide: col_end - col_start,
+            high: row_end - row_start,
+        };
+        transpose_region(matrix, output, leaf, kernel);
     }
 }
 
 /// Splits a matrix into leaves and copies them, with room to put N regions aside. The original calls itself on both
 /// halves; here a walk keeps the second ones. Inner: N places are enough for the cells.
 fn transpose_recursive<T: Copy, K: TileKernel, const N: usize>(
-    input: &[T],
+    matrix: Matrix<'_, T>,
     output: &mut [T],
-    total_cols: usize,
-    total_rows: usize,
     kernel: &mut K,
 )
-    requires input { length input.now ≡ total_cols * total_rows }
-    requires output { length output.old ≡ total_cols * total_rows }
+    requires output { length output.old ≡ matrix.width * matrix.height }
     requires place { 0 < N }
     requires few { N ≤ 4096 }
-    requires room { total_cols * total_rows ≤ 2 ^ (N + 8) }
-    ensures places { output.new ≡ pasted total_cols total_rows 0 total_cols 0 total_rows input.now output.old }
-    ensures count { K.TileKernel.count kernel.new ≡ raised (K.TileKernel.count kernel.old) (split_tiles K.TileKernel.side total_rows total_cols) }
+    requires room { matrix.width * matrix.height ≤ 2 ^ (N + 8) }
+    ensures places { output.new ≡ pasted matrix.entry.width matrix.entry.height 0 matrix.entry.width 0 matrix.entry.height matrix.entry.cells.now output.old }
+    ensures count { K.TileKernel.count kernel.new ≡ raised (K.TileKernel.count kernel.old) (split_tiles K.SIDE matrix.entry.height matrix.entry.width) }
 {
-    let mut walk = Walk::<N>::new(Region {
+    let walk = Walk::<N>::new(Region {
         row_start: 0,
-        row_end: total_rows,
+        row_end: matrix.height,
         col_start: 0,
-        col_end: total_cols,
+        col_end: matrix.width,
     });
-    transpose_leaves(input, output, &mut walk, total_cols, total_rows, kernel);
+    transpose_leaves(matrix, output, walk, kernel);
 }
 
 /// Copies a matrix of any size leaf by leaf.
+#[tactic(auto, using(crate::proofs::Tiled::whole_rules))]
 pub(crate) fn transpose_large<T: Copy, K: TileKernel>(
-    input: &[T],
+    matrix: Matrix<'_, T>,
     output: &mut [T],
-    width: usize,
-    height: usize,
     kernel: &mut K,
 )
-    requires input { length input.now ≡ width * height }
-    requires output { length output.old ≡ width * height }
-    requires cells { width * height < 2 ^ 64 }
-    ensures places { output.new ≡ transposed width height input.now }
-    ensures cells { Cells width height input.now output.new }
-    ensures count { K.TileKernel.count kernel.new ≡ raised (K.TileKernel.count kernel.old) (split_tiles K.TileKernel.side height width) }
+    requires output { length output.old ≡ matrix.width * matrix.height }
+    ensures places { output.new ≡ transposed matrix.entry.width matrix.entry.height matrix.entry.cells.now }
+    ensures cells { Cells matrix.entry.width matrix.entry.height matrix.entry.cells.now output.new }
+    ensures count { K.TileKernel.count kernel.new ≡ raised (K.TileKernel.count kernel.old) (split_tiles K.SIDE matrix.entry.height matrix.entry.width) }
 {
-    transpose_recursive::<T, K, WAITING>(input, output, width, height, kernel);
+    transpose_recursive::<T, K, WAITING>(matrix, output, kernel);
 }

@@ -2,9 +2,9 @@
 #![tactic(auto)]
 
 ghost use Rattle.std.specs.Prelude.{◌≡◌, ◌*◌, true, length, is_ok};
-ghost use Rattle.fault.specs.Tests.{after_call};
+ghost use Rattle.fault.specs.Tests.{after_call, answering};
 ghost use Rattle.places.specs.Turn.{Cells, transposed};
-ghost use Rattle.blocked.specs.Answers.{answering, countable};
+ghost use Rattle.blocked.specs.Answers.{countable};
 ghost use Rattle.transpose.specs.Answers.{transposable};
 ghost use Rattle.blocked.specs.Laws.{Paths};
 ghost use Rattle.blocked.specs.Paths.{leaf_count, path_of, tiled_count, tiles_for};
@@ -12,23 +12,23 @@ ghost use Rattle.blocked.specs.Worked.{AllCounted, worked_counts};
 
 use fault::{Fault, Refusal};
 use large::transpose_large;
-use path::{is_medium, is_small};
+use matrix::Matrix;
+use path::{Path, path_of};
 use region::transpose_medium;
-use small::transpose_small;
 use split::{split_tiles, whole_tiles};
-use tile::TileKernel;
-use transpose::test_transpose;
+use tile::{Plain, Segmented, TileKernel};
+use transpose::{test_transpose, transpose_small};
 
 mod large;
 mod path;
 mod region;
-mod small;
 
 /// The most cells for which tiles are counted beforehand.
 const COUNTED_LEN: usize = 16_777_216;
 
 /// Copies a matrix of `height` rows of `width` cells to its transpose, of `width` rows of `height` cells. A matrix of
-/// middle size is tiled by the kernel `tiled`; a large one is split, and its leaves are tiled by the kernel `leaf`.
+/// middle size is tiled by the kernel `tiled`; a large one is split, and its leaves are tiled by the kernel `leaf`. The
+/// sides need not fit the buffers, so they are no `Matrix` yet.
 pub fn transpose<T: Copy, K: TileKernel, L: TileKernel>(
     input: &[T],
     output: &mut [T],
@@ -40,19 +40,38 @@ pub fn transpose<T: Copy, K: TileKernel, L: TileKernel>(
     ensures answer { result ≡ transposable width height (length input.now) (length output.old) }
     ensures places { output.new ≡ after_call result (transposed width height input.now) output.old }
     ensures cells { is_ok result ≡ true → Cells width height input.now output.new }
-    ensures tiled { K.TileKernel.count tiled.new ≡ after_call result (tiled_count (path_of (width * height)) (K.TileKernel.count tiled.old) (tiles_for K.TileKernel.side L.TileKernel.side width height)) (K.TileKernel.count tiled.old) }
-    ensures leaf { L.TileKernel.count leaf.new ≡ after_call result (leaf_count (path_of (width * height)) (L.TileKernel.count leaf.old) (tiles_for K.TileKernel.side L.TileKernel.side width height)) (L.TileKernel.count leaf.old) }
+    ensures tiled { K.TileKernel.count tiled.new ≡ after_call result (tiled_count (path_of (width * height)) (K.TileKernel.count tiled.old) (tiles_for K.SIDE L.SIDE width height)) (K.TileKernel.count tiled.old) }
+    ensures leaf { L.TileKernel.count leaf.new ≡ after_call result (leaf_count (path_of (width * height)) (L.TileKernel.count leaf.old) (tiles_for K.SIDE L.SIDE width height)) (L.TileKernel.count leaf.old) }
 {
+    // as in the plain `transpose`
     test_transpose(width, height, input.len(), output.len())?;
-    let cells = width * height;
-    if is_small(cells) {
-        transpose_small(input, output, width, height);
-    } else if is_medium(cells) {
-        transpose_medium(input, output, width, height, tiled);
-    } else {
-        transpose_large(input, output, width, height, leaf);
+    let matrix = Matrix {
+        cells: input,
+        width,
+        height,
+    };
+    match path_of(width * height) {
+        Path::Single => transpose_small(matrix, output),
+        Path::Tiled => transpose_medium(matrix, output, tiled),
+        Path::Split => transpose_large(matrix, output, leaf),
     }
     Ok(())
+}
+
+/// The same move with the library's own two kernels, for callers that do not ask what was counted.
+pub fn transpose_tiled<T: Copy>(
+    input: &[T],
+    output: &mut [T],
+    width: usize,
+    height: usize,
+) -> Result<(), Fault>
+    ensures answer { result ≡ transposable width height (length input.now) (length output.old) }
+    ensures places { output.new ≡ after_call result (transposed width height input.now) output.old }
+    ensures cells { is_ok result ≡ true → Cells width height input.now output.new }
+{
+    let mut tiled = Plain::new(0);
+    let mut leaf = Segmented::new(0);
+    transpose(input, output, width, height, &mut tiled, &mut leaf)
 }
 
 /// How many tiles `transpose` would copy with these two kernels; it moves nothing.
@@ -62,21 +81,18 @@ pub fn tiles<K: TileKernel, L: TileKernel>(
     _tiled: &K,
     _leaf: &L,
 ) -> Result<u64, Fault>
-    ensures { result ≡ answering (countable width height) (tiles_for K.TileKernel.side L.TileKernel.side width height) }
+    ensures { result ≡ answering (countable width height) (tiles_for K.SIDE L.SIDE width height) }
 {
-    let Some(cells) = width.checked_mul(height) else {
-        return Err(Fault::new(Refusal::TooManyCells));
-    };
+    let cells = width.checked_mul(height).ok_or(Refusal::TooManyCells)?;
     if cells > COUNTED_LEN {
-        return Err(Fault::new(Refusal::TooLong));
+        return Err(Refusal::TooLong.into());
     }
-    let count = if is_small(cells) {
-        0
-    } else if is_medium(cells) {
-        whole_tiles(height, width, K::edge())
-    } else {
-        split_tiles(height, width, L::edge())
+    let count = match path_of(cells) {
+        Path::Single => 0,
+        Path::Tiled => whole_tiles(height, width, K::SIDE),
+        Path::Split => split_tiles(height, width, L::SIDE),
     };
+    // no `From` goes from `usize` to `u64`, and a `TryFrom` would add a failure that cannot come
     Ok(count as u64)
 }
 

@@ -1,5 +1,6 @@
 //! Which way a matrix is copied, by the number of its cells.
-ghost use Rattle.std.specs.Prelude.{◌≡◌, nat_le};
+ghost use Rattle.std.specs.Prelude.{◌≡◌};
+ghost use Rattle.blocked.specs.Paths.{path_of};
 
 /// The most cells that are copied one by one: so small a matrix gains nothing from tiles.
 const SMALL_LEN: usize = 255;
@@ -7,16 +8,26 @@ const SMALL_LEN: usize = 255;
 /// The most cells that are tiled as one region; a larger matrix is split first.
 const MEDIUM_LEN: usize = 1 << 20;
 
-/// Whether a matrix is copied cell by cell.
-pub(crate) fn is_small(cells: usize) -> bool
-    ensures { result ≡ nat_le cells 255 }
-{
-    cells <= SMALL_LEN
+/// How the cells of a matrix are copied.
+#[derive(Clone, Copy, PartialEq, Eq, Debug)]
+pub enum Path {
+    /// One by one.
+    Single,
+    /// As one region of tiles.
+    Tiled,
+    /// Split into leaves, each a region of tiles.
+    Split,
 }
 
-/// Whether a matrix that is not small is tiled as one region.
-pub(crate) fn is_medium(cells: usize) -> bool
-    ensures { result ≡ nat_le cells 1048576 }
+/// The way of a matrix of so many cells.
+pub(crate) fn path_of(cells: usize) -> Path
+    ensures { result ≡ path_of cells }
 {
-    cells <= MEDIUM_LEN
+    if cells <= SMALL_LEN {
+        Path::Single
+    } else if cells <= MEDIUM_LEN {
+        Path::Tiled
+    } else {
+        Path::Split
+    }
 }

@@ -1,6 +1,5 @@
 -- What comes of transposing a frame with two fresh kernels.
-use Rattle.std.specs.Prelude.{ℕ, ◌*◌, Ok, Err, Result}
-use Rattle.fault.specs.declared.Fault.{Fault}
+use Rattle.std.specs.Prelude.{ℕ, ◌*◌}
 use Rattle.fault.specs.Tests.{Answer, and_then}
 use Rattle.transpose.specs.Answers.{transposable}
 use Rattle.blocked.specs.Answers.{countable}
@@ -18,7 +17,3 @@ counts_of width height = record {
   tiled = tiled_count (path_of (width * height)) 0 (tiles_for 16 16 width height);
   leaf = leaf_count (path_of (width * height)) 0 (tiles_for 16 16 width height);
 }
-
-abbrev pub counting : Answer → Counts → Result Counts Fault
-counting (Ok u) n = Ok n
-counting (Err f) n = Err f

@@ -1,4 +1,5 @@
-//! What the C side of a receiver calls. A buffer is a pointer and a number of bytes.
+//! What the C side of a receiver calls. A buffer is a pointer and a number of bytes. C has no generics, so there is an entry
+//! for each element type, and its arguments are plain.
 #![tactic(auto)]
 
 ghost use Rattle.fault.specs.Tests.{after_call};
@@ -7,11 +8,10 @@ ghost use Rattle.places.specs.Turn.{transposed};
 ghost use Rattle.transpose.specs.Answers.{transposable};
 ghost use Rattle.std.specs.Prelude.{◌≡◌, length};
 
-use blocked::transpose;
+use blocked::transpose_tiled;
 use fault::Fault;
-use tile::{Plain, Segmented};
 
-/// 0 for a call that was accepted, else the number of its refusal.
+/// 0 for a call that was accepted, else the number of its refusal: what C can read of an answer.
 fn status(answer: Result<(), Fault>) -> u32
     ensures { result ≡ status_of answer }
 {
@@ -33,7 +33,5 @@ pub extern "C" fn gorqymel_transpose(
     ensures answer { result ≡ status_of (transposable width height (length input.now) (length output.old)) }
     ensures places { output.new ≡ after_call (transposable width height (length input.now) (length output.old)) (transposed width height input.now) output.old }
 {
-    let mut tiled = Plain::new(0);
-    let mut leaf = Segmented::new(0);
-    status(transpose(input, output, width, height, &mut tiled, &mut leaf))
+    status(transpose_tiled(input, output, width, height))
 }

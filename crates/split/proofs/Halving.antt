@@ -1,12 +1,13 @@
 -- The halves of a region, and its leaves by theirs.
-use Rattle.std.proofs.Common.{◌≡◌, ℕ, zero, suc, ◌+◌, ◌-◌, ◌/◌, ◌<◌, ◌≤◌, Bool, true, false, cond, leb, ◌≢◌, List, [], ◌∷◌, ◌++◌, length, get_or, take, set, replicate, sym, refl, ap, ◌∙◌, subst, inl, inr, arith}
-use Rattle.std.proofs.lemmas.List.{append_assoc, append-nil, take_more, take_more_set, get_or-set_same, get_or-set_other, get_or-replicate}
+use Rattle.std.proofs.Common.{◌≡◌, ℕ, zero, suc, ◌+◌, ◌-◌, ◌*◌, ◌/◌, ◌^◌, ◌<◌, ◌≤◌, Bool, true, false, cond, leb, List, [], ◌∷◌, ◌++◌, length, get_or, sym, refl, ap, ◌∙◌, subst, inl, inr, arith}
+use Rattle.std.proofs.lemmas.List.{append_assoc, append-nil, length-append, get_or_append_left}
+use Rattle.std.proofs.Math.Seq.{get_or-append_seam}
 use Rattle.std.proofs.lemmas.Bool.{cases_Bool, cases_lt, cond-true, cond-false, and_from, and_parts, le-leb, leb-true}
 use Rattle.split.specs.Tiles.{leaf}
 use Rattle.split.proofs.Tiling.{thick}
 use Rattle.split.specs.declared.region.Region.{Region}
-use Rattle.split.specs.Regions.{rows, cols, Ordered, upper, lower, left_half, right_half, first, rest, deep, sound, leaves_within, leaves, pending}
-use Rattle.split.proofs.Room.{deep_halved, halves_rows, halves_cols, deep_more}
+use Rattle.split.specs.Regions.{rows, cols, Ordered, upper, lower, left_half, right_half, first, rest, deep, sound, AllSound, leaves_within, leaves, pending}
+use Rattle.split.proofs.Room.{deep_halved, halves_rows, halves_cols, deep_more, room}
 
 cond_pair : {A : Type 0} (b : Bool) (x y u v : A) (P : A → A → Type 0) → (b ≡ true → P x u) → (b ≡ false → P y v) →
     P (cond b x y) (cond b u v)
@@ -77,22 +78,25 @@ turn k n r e h =
     let p = sound_halves (k - (n + 1)) r e (subst (λ (j : ℕ). sound j r ≡ true) s h) in
     (omega arith, p.0, subst (λ (j : ℕ). sound j (rest r) ≡ true) (sym s) (sound_more (k - (n + 1)) (rest r) p.1))
 
--- only the first region waits
-pub sound_one : (k : ℕ) (r : Region) → 0 < k → sound k r ≡ true →
-    (i : ℕ) (d : Region) → i < 1 → sound (k - i) (get_or (replicate k r) i d) ≡ true
-sound_one k r p h i d b =
-    let l : i < k = omega arith in
-    let e : k - i ≡ k = omega arith in
-    rw (e, get_or-replicate k i r d l) h
+-- only one region waits
+pub sound_one : (k : ℕ) (r : Region) (i : ℕ) (d : Region) → Ordered r → rows r * cols r ≤ 2 ^ (k + 8) → i < 1 →
+    sound (k - i) (get_or (r ∷ []) i d) ≡ true
+sound_one k r zero d o h b = let e : k - 0 ≡ k = omega arith in rw e (make_sound k r o (room k _ _ h))
+sound_one k r (suc i) d o h b = absurd (omega arith)
+
+pub pending_one : (r : Region) → pending (r ∷ []) ≡ leaves r
+unfolding pending
+pending_one r = refl
 
 -- one region more waits
-pub sound_push : (k : ℕ) (rs : List Region) (n : ℕ) (r : Region) → n < length rs →
-    ((i : ℕ) (d : Region) → i < n → sound (k - i) (get_or rs i d) ≡ true) → sound (k - n) r ≡ true →
-    (i : ℕ) (d : Region) → i < n + 1 → sound (k - i) (get_or (set rs n r) i d) ≡ true
-sound_push k rs n r l all h i d b = elim (cases_lt i n) [
-  | inl p ↦ let ne : i ≢ n = omega arith in rw (get_or-set_other rs n i r d ne) (all i d p)
-  | inr p ↦ let e : i ≡ n = omega arith in rw (e, get_or-set_same rs n r d l) h
+pub sound_push : (k : ℕ) (rs : List Region) (r : Region) → AllSound k rs → sound (k - length rs) r ≡ true → AllSound k (rs ++ r ∷ [])
+sound_push k rs r all h i d b = elim (cases_lt i (length rs)) [
+  | inl p ↦ rw (get_or_append_left rs (r ∷ []) d i p) (all i d p)
+  | inr p ↦ let e : i ≡ length rs = omega (arith, length-append rs (r ∷ [])) in rw (e, get_or-append_seam rs r [] d) h
 ]
+
+pub sound_last : (k : ℕ) (rs : List Region) (r : Region) → AllSound k (rs ++ r ∷ []) → sound (k - length rs) r ≡ true
+sound_last k rs r all = rw (sym (get_or-append_seam rs r [] r)) (all (length rs) r (omega (arith, length-append rs (r ∷ []))))
 
 thin : (r : Region) → rows r + cols r ≤ 0 → leaf (rows r) (cols r) ≡ true
 thin r h = elim (cases_Bool (leaf (rows r) (cols r))) [
@@ -160,32 +164,24 @@ module _ (P : Region → List Region → Type 0) (tip : (r : Region) → leaf (r
   pub by_leaves : (r : Region) → P r (leaves r)
   by_leaves r = up_to (rows r + cols r) r (omega arith)
 
+pub pending_none : (rs : List Region) → ¬ (0 < length rs) → pending rs ≡ []
+unfolding pending
+pending_none [] h = refl
+pending_none (r ∷ rs) h = absurd (h (omega arith))
+
 -- one region more waits
 pub pending_push : (rs : List Region) (r : Region) → pending (rs ++ r ∷ []) ≡ leaves r ++ pending rs
 unfolding pending
 pending_push [] r = sym (append-nil (leaves r))
 pending_push (x ∷ xs) r = ap (λ l. l ++ leaves x) (pending_push xs r) ∙ append_assoc (leaves r) (pending xs) (leaves x)
 
-pub pending_one : (n : ℕ) (r : Region) → 0 < n → pending (take 1 (replicate n r)) ≡ leaves r
-unfolding pending
-pending_one zero r h = absurd (omega arith)
-pending_one (suc n) r h = refl
-
-pub pending_none : pending [] ≡ []
-unfolding pending
-pending_none = refl
-
--- the last of the waiting regions is taken off
-pub pending_last : (rs : List Region) (n : ℕ) (d : Region) → 0 < n → n ≤ length rs →
-    pending (take n rs) ≡ leaves (get_or rs (n - 1) d) ++ pending (take (n - 1) rs)
-pending_last rs n d p q =
-    let e : n ≡ n - 1 + 1 = omega arith in
-    ap (λ k. pending (take k rs)) e ∙ ap pending (take_more rs (n - 1) d (omega arith)) ∙ pending_push (take (n - 1) rs) (get_or rs (n - 1) d)
-
 -- a half waits, and the other is next
-pub pending_more : (rs : List Region) (n : ℕ) (r : Region) → n < length rs → leaf (rows r) (cols r) ≡ false →
-    leaves (first r) ++ pending (take (n + 1) (set rs n (rest r))) ≡ leaves r ++ pending (take n rs)
-pending_more rs n r h e =
-    let p = ap pending (take_more_set rs n (rest r) h) ∙ pending_push (take n rs) (rest r) in
-    let q = append_assoc (leaves (first r)) (leaves (rest r)) (pending (take n rs)) in
+pub pending_more : (rs : List Region) (r : Region) → leaf (rows r) (cols r) ≡ false →
+    leaves (first r) ++ pending (rs ++ rest r ∷ []) ≡ leaves r ++ pending rs
+pending_more rs r e =
+    let p = pending_push rs (rest r) in
+    let q = append_assoc (leaves (first r)) (leaves (rest r)) (pending rs) in
     cc (leaves_halves r e)
+
+-- what a step of a walk rests on
+pub ruleset walking = (leaves-leaf, sound_last, pending_push, ordered)

@@ -1,6 +1,6 @@
 -- The leaves of a region: what holds of them all, where they lie, and their tiles.
 use Rattle.std.proofs.Common.{◌≡◌, ℕ, ◌+◌, true, false, cond, List, [], ◌∷◌, ◌++◌, sym, ◌∙◌, ap₂, arith, rules}
-use Rattle.std.proofs.lemmas.Bool.{le-leb, lt-leb, leb-true, leb-false}
+use Rattle.std.proofs.lemmas.Bool.{leb-true, leb-false}
 use Rattle.std.proofs.lemmas.Bool.Decides.{nat_tests}
 use Rattle.split.specs.declared.region.Region.{Region}
 use Rattle.split.specs.Tiles.{leaf, split_tiles}
@@ -10,11 +10,7 @@ use Rattle.split.proofs.Tiling.{thick, at_leaf, by_rows, by_cols}
 use Rattle.split.proofs.Halving.{by_cut, by_sizes, by_leaves}
 
 pub counted : Counted
-counted = record {
-  of_leaf = at_leaf;
-  by_rows = λ s r c e l. by_rows s r c e (le-leb c r l);
-  by_cols = λ s r c e l. by_cols s r c e (lt-leb c r l);
-}
+counted = record { of_leaf = at_leaf; by_rows = by_rows; by_cols = by_cols }
 
 -- halves told by cases are the halves
 pub halves_are : (r a b : Region) → Halves r a b → (a ≡ first r) × (b ≡ rest r)
@@ -62,8 +58,8 @@ leaves-tiles s =
     (λ r e. let l = at_leaf s (rows r) (cols r) e in omega arith)
     (λ r us vs e f g.
     tiles_both s us vs ∙ ap₂ (λ a b. a + b) f g
-    ∙ by_sizes r e (λ m n u v. split_tiles s m n + split_tiles s u v ≡ split_tiles s (rows r) (cols r)) (λ q. sym (by_rows s _ _ e q))
-    (λ q. sym (by_cols s _ _ e q)))
+    ∙ by_sizes r e (λ m n u v. split_tiles s m n + split_tiles s u v ≡ split_tiles s (rows r) (cols r)) (λ q. sym (by_rows s _ _ e (leb-true _ _ q)))
+    (λ q. sym (by_cols s _ _ e (leb-false _ _ q))))
 
 pub parted : Parted
 parted = record { each = each; once = once; lie = lie; tiles = leaves-tiles }

@@ -2,3 +2,4 @@ pub mod Tiling
 pub mod Room
 pub mod Halving
 pub mod Leaves
+pub mod Walks

@@ -1,7 +1,7 @@
 -- The tiles of a matrix, from those of its halves.
 use Rattle.std.proofs.Common.{◌≡◌, ℕ, zero, suc, ◌+◌, ◌-◌, ◌*◌, ◌/◌, ◌<◌, ◌≤◌, true, false, cond, ◌&&◌, ◌||◌, leb, sym, refl, ap, ◌∙◌, inl, inr, div-le_self, arith}
 use Rattle.std.proofs.lemmas.Nat.{mul-le}
-use Rattle.std.proofs.lemmas.Bool.{cases_Bool, cond-true, cond-false, cond_both, or_parts, or_left, or_right, leb-false, le-leb}
+use Rattle.std.proofs.lemmas.Bool.{cases_Bool, cond-true, cond-false, cond_both, or_parts, or_left, or_right, leb-false, le-leb, lt-leb}
 use Rattle.split.specs.Tiles.{leaf, whole_tiles, tiles_within, split_tiles}
 
 thin : (r c : ℕ) → r ≤ 2 → leaf r c ≡ true
@@ -52,19 +52,19 @@ module _ (s : ℕ) where
     unfolding split_tiles
     whole = enough (r + c) (suc (r + c)) r c (omega arith) (omega arith)
 
-    pub by_rows : leb c r ≡ true → split_tiles s r c ≡ split_tiles s (r / 2) c + split_tiles s (r - r / 2) c
+    pub by_rows : c ≤ r → split_tiles s r c ≡ split_tiles s (r / 2) c + split_tiles s (r - r / 2) c
     unfolding split_tiles
-    by_rows f =
+    by_rows h =
         let a = enough (r + c) (r / 2 + c) (r / 2) c (omega arith) (omega arith) in
         let b = enough (r + c) (r - r / 2 + c) (r - r / 2) c (omega arith) (omega arith) in
-        whole ∙ opened (r + c) r c e ∙ cond-true (leb c r) _ _ f ∙ (cc)
+        whole ∙ opened (r + c) r c e ∙ cond-true (leb c r) _ _ (le-leb c r h) ∙ (cc)
 
-    pub by_cols : leb c r ≡ false → split_tiles s r c ≡ split_tiles s r (c / 2) + split_tiles s r (c - c / 2)
+    pub by_cols : r < c → split_tiles s r c ≡ split_tiles s r (c / 2) + split_tiles s r (c - c / 2)
     unfolding split_tiles
-    by_cols f =
+    by_cols h =
         let a = enough (r + c) (r + c / 2) r (c / 2) (omega arith) (omega arith) in
         let b = enough (r + c) (r + (c - c / 2)) r (c - c / 2) (omega arith) (omega arith) in
-        whole ∙ opened (r + c) r c e ∙ cond-false (leb c r) _ _ f ∙ (cc)
+        whole ∙ opened (r + c) r c e ∙ cond-false (leb c r) _ _ (lt-leb c r h) ∙ (cc)
 
   -- no more tiles than cells
   pub product : (r c : ℕ) → whole_tiles s r c ≤ r * c
@@ -81,3 +81,12 @@ module _ (s : ℕ) where
   pub tiles_below : (r c : ℕ) → split_tiles s r c ≤ r * c
   unfolding split_tiles
   tiles_below r c = below (r + c) r c
+
+  -- the sum over both halves
+  pub below_rows : (r c : ℕ) → split_tiles s (r / 2) c + split_tiles s (r - r / 2) c ≤ r * c
+  below_rows r c = omega (arith, tiles_below (r / 2) c, tiles_below (r - r / 2) c, halves_rows r c)
+
+  pub below_cols : (r c : ℕ) → split_tiles s r (c / 2) + split_tiles s r (c - c / 2) ≤ r * c
+  below_cols r c = omega (arith, tiles_below r (c / 2), tiles_below r (c - c / 2), halves_cols r c)
+
+pub ruleset counting = (thick, halves_rows, halves_cols, at_leaf, by_rows, by_cols, below_rows, below_cols)

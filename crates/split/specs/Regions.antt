@@ -1,5 +1,5 @@
 -- Parts of a matrix, the halves of a part, and its leaves.
-use Rattle.std.specs.Prelude.{◌≡◌, ℕ, zero, suc, ◌+◌, ◌-◌, ◌/◌, ◌<◌, ◌≤◌, Bool, cond, ◌&&◌, ◌||◌, List, [], ◌∷◌, ◌++◌, nat_le, nat_lt}
+use Rattle.std.specs.Prelude.{◌≡◌, ℕ, zero, suc, ◌+◌, ◌-◌, ◌/◌, ◌<◌, ◌≤◌, Bool, cond, ◌&&◌, ◌||◌, true, List, [], ◌∷◌, ◌++◌, length, slice_index_or, nat_le, nat_lt}
 use Rattle.split.specs.declared.region.Region.{Region}
 use Rattle.split.specs.Tiles.{leaf, whole_tiles}
 
@@ -62,6 +62,10 @@ deep (suc k) r c = leaf r c
 -- an ordered region that k halvings are enough for
 unfoldable pub sound : ℕ → Region → Bool
 sound k r = nat_le r.row_start r.row_end && (nat_le r.col_start r.col_end && deep k (rows r) (cols r))
+
+-- of regions that wait in k places, for the one at place i as many halvings are enough as there are places from i on
+abbrev pub AllSound : ℕ → List Region → Type 0
+AllSound k rs = (i : ℕ) (d : Region) → i < length rs → sound (k - i) (slice_index_or rs i d) ≡ true
 
 -- the leaves from first to last, after at most `fuel` halvings
 unfoldable pub leaves_within : ℕ → Region → List Region

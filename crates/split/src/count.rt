@@ -1,10 +1,13 @@
 //! How many whole tiles a matrix has, tiled as it is or split. Both are inner: the sides make a product that fits.
+//! Rows, columns and side stay three numbers: the recursion makes one of the first two smaller at a time, and a
+//! `NonZeroUsize` for the side would have to be made of a kernel's constant at each call.
 ghost use Rattle.std.specs.Prelude.{◌≡◌, ◌*◌, ◌^◌, ◌<◌};
 ghost use Rattle.split.specs.Tiles.{split_tiles, whole_tiles};
 
 use crate::halve::is_leaf;
 
 /// The whole tiles of a part that is tiled as it is.
+#[tactic(auto, using(crate::proofs::Tiling::product))]
 pub fn whole_tiles(nbr_rows: usize, nbr_cols: usize, side: usize) -> usize
     requires side { 0 < side }
     requires cells { nbr_rows * nbr_cols < 2 ^ 64 }
@@ -14,6 +17,7 @@ pub fn whole_tiles(nbr_rows: usize, nbr_cols: usize, side: usize) -> usize
 }
 
 /// The whole tiles of all leaves of a part that is split.
+#[tactic(auto, using(crate::proofs::Tiling::counting))]
 pub fn split_tiles(nbr_rows: usize, nbr_cols: usize, side: usize) -> usize
     requires side { 0 < side }
     requires cells { nbr_rows * nbr_cols < 2 ^ 64 }

@@ -20,18 +20,11 @@ pub(crate) fn halves(r: Region) -> (Region, Region)
     requires { Ordered r }
     ensures { Halves r result.0 result.1 }
 {
-    let nbr_rows = r.row_end - r.row_start;
-    let nbr_cols = r.col_end - r.col_start;
-    let mut first = r;
-    let mut rest = r;
-    if nbr_rows >= nbr_cols {
-        let mid = r.row_start + nbr_rows / 2;
-        first.row_end = mid;
-        rest.row_start = mid;
+    if r.nbr_rows() >= r.nbr_cols() {
+        let at = r.row_start + r.nbr_rows() / 2;
+        (Region { row_end: at, ..r }, Region { row_start: at, ..r })
     } else {
-        let mid = r.col_start + nbr_cols / 2;
-        first.col_end = mid;
-        rest.col_start = mid;
+        let at = r.col_start + r.nbr_cols() / 2;
+        (Region { col_end: at, ..r }, Region { col_start: at, ..r })
     }
-    (first, rest)
 }

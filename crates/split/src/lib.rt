@@ -13,6 +13,7 @@ pub use region::Region;
 pub use walk::Walk;
 
 /// The laws of halving, of leaves and of the room that a walk needs.
+#[tactic(auto, using(crate::proofs::Leaves::counted, crate::proofs::Leaves::parted, crate::proofs::Room::room))]
 pub fn splits_stand()
     ensures counted { Counted }
     ensures parted { Parted }

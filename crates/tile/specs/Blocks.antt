@@ -2,8 +2,10 @@
 -- The matrix has `rows` rows of `cols` cells. The output is its transpose, with `cols` rows of `rows` cells,
 -- so the cell in column u and row v belongs at the place u * rows + v of the output.
 -- The block has the `wide` columns from x on, of the `high` rows from y on.
-use Rattle.std.specs.Prelude.{◌≡◌, ℕ, suc, ◌+◌, ◌*◌, ◌/◌, ◌%◌, ◌<◌, ◌≤◌, Bool, cond, ◌&&◌, List, [], ◌∷◌, nat_le, nat_lt, slice_index_or}
+use Rattle.std.specs.Prelude.{◌≡◌, ℕ, suc, ◌+◌, ◌*◌, ◌/◌, ◌%◌, ◌<◌, ◌≤◌, Bool, cond, ◌&&◌, List, [], ◌∷◌, length, nat_le, nat_lt, slice_index_or}
 use Rattle.places.specs.Turn.{turned}
+use Rattle.matrix.specs.declared.Matrix.{Matrix}
+use Rattle.matrix.specs.declared.block.Block.{Block}
 
 -- two buffers of these lengths hold the matrix, and the block lies in it
 pub record Inside (input output cols rows x wide y high : ℕ) : Type 0 where
@@ -34,3 +36,10 @@ pub record Copied {X : Type 0} (cols rows x wide y high : ℕ) (input old new : 
       slice_index_or new (u * rows + v) d ≡ slice_index_or input (v * cols + u) d
   pub others : (u v : ℕ) (d : X) → u < cols → v < rows → (x ≤ u → u < x + wide → y ≤ v → v < y + high → ⊥) →
       slice_index_or new (u * rows + v) d ≡ slice_index_or old (u * rows + v) d
+
+-- the same of a matrix and a block of it
+abbrev pub BlockInside : {X : Type 0} → Matrix X → ℕ → Block → Type 0
+BlockInside m output b = Inside (length m.cells.now) output m.width m.height b.x b.wide b.y b.high
+
+abbrev pub block_pasted : {X : Type 0} → Matrix X → Block → List X → List X
+block_pasted m b output = pasted m.width m.height b.x b.wide b.y b.high m.cells.now output

@@ -14,19 +14,17 @@ pub trait TileKernel {
     /// The number of cells along a side of a tile, from 1 to 128.
     const SIDE: usize;
 
-    ghost side: { ℕ };
+    // the same number, for clauses
+    ghost SIDE: { ℕ };
 
     ghost count: { Self → ℕ };
-
-    /// `SIDE`, for code that is generic in the kernel: a clause cannot name a type parameter's constant.
-    fn edge() -> usize
-        ensures { result ≡ side };
 
     /// How many tiles were copied; the count stays at 2^64 - 1 once it is there.
     fn moved(&self) -> u64
         ensures { result ≡ count self.now };
 
-    /// Copies the tile whose first cell is in column `start_x` and row `start_y`.
+    /// Copies the tile whose first cell is in column `start_x` and row `start_y`. The six arguments are the rule's, and
+    /// need not fit one another, so they make no struct.
     fn transpose_tile<T: Copy>(
         &mut self,
         input: &[T],
@@ -36,16 +34,17 @@ pub trait TileKernel {
         start_x: usize,
         start_y: usize,
     ) -> Result<(), Fault>
-        ensures answer { result ≡ tileable side (length input.now) (length output.old) total_cols total_rows start_x start_y }
-        ensures places { output.new ≡ after_call result (pasted total_cols total_rows start_x side start_y side input.now output.old) output.old }
+        ensures answer { result ≡ tileable SIDE (length input.now) (length output.old) total_cols total_rows start_x start_y }
+        ensures places { output.new ≡ after_call result (pasted total_cols total_rows start_x SIDE start_y SIDE input.now output.old) output.old }
         ensures count { count self.new ≡ after_call result (raised (count self.old) 1) (count self.old) };
 
-    ghost bounded: { (1 ≤ side) × (side ≤ 128) };
+    ghost bounded: { (1 ≤ SIDE) × (SIDE ≤ 128) };
 
     ghost below: { (k : Self) → count k < 2 ^ 64 };
 }
 
-/// What a kernel of this side answers for a tile; it moves nothing. Every kernel begins with it.
+/// What a kernel of this side answers for a tile; it moves nothing. Every kernel begins with it. It takes numbers one by
+/// one, as a kernel does: only what it accepts is a matrix.
 pub fn test_tile(
     side: usize,
     input_len: usize,
@@ -69,5 +68,5 @@ pub fn test_tile(
     {
         return Ok(());
     }
-    Err(Fault::new(Refusal::Outside))
+    Err(Refusal::Outside.into())
 }

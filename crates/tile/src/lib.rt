@@ -4,15 +4,17 @@
 ghost use Rattle.tile.specs.Laws.{Counting, Pasting};
 
 mod block;
+mod counting;
 mod kernel;
 mod plain;
 mod segmented;
 mod tally;
 
 pub use block::transpose_block;
+pub use counting::{Kernel, TileCopy};
 pub use kernel::{TileKernel, test_tile};
-pub use plain::Plain;
-pub use segmented::Segmented;
+pub use plain::{Plain, Whole};
+pub use segmented::{Bands, Segmented};
 
 /// The laws of blocks and of counts.
 pub fn blocks_stand<T>()

@@ -1,14 +1,17 @@
 //! Transposition of whole matrices, from one buffer into another.
 #![tactic(auto)]
 
-ghost use Rattle.std.specs.Prelude.{◌≡◌, ◌+◌, ◌*◌, ◌<◌, true, length, is_ok, slice_index_or, slice_set};
+ghost use Rattle.std.specs.Prelude.{◌≡◌, ◌*◌, true, length, is_ok};
 ghost use Rattle.fault.specs.Tests.{after_call};
 ghost use Rattle.places.specs.Turn.{Cells, transposed};
 ghost use Rattle.transpose.specs.Answers.{transposable};
 
 use fault::{Fault, Refusal};
+use matrix::Matrix;
+use tile::transpose_block;
 
-/// What `transpose` answers for buffers of these lengths; it moves nothing.
+/// What `transpose` answers for buffers of these lengths; it moves nothing. Any four numbers may be asked, so they come one
+/// by one.
 pub fn test_transpose(
     width: usize,
     height: usize,
@@ -17,19 +20,18 @@ pub fn test_transpose(
 ) -> Result<(), Fault>
     ensures { result ≡ transposable width height input_len output_len }
 {
-    let Some(cells) = width.checked_mul(height) else {
-        return Err(Fault::new(Refusal::TooManyCells));
-    };
+    let cells = width.checked_mul(height).ok_or(Refusal::TooManyCells)?;
     if input_len != cells {
-        return Err(Fault::new(Refusal::InputLength));
+        return Err(Refusal::InputLength.into());
     }
     if output_len != cells {
-        return Err(Fault::new(Refusal::OutputLength));
+        return Err(Refusal::OutputLength.into());
     }
     Ok(())
 }
 
-/// Copies a matrix of `height` rows of `width` cells to its transpose, of `width` rows of `height` cells.
+/// Copies a matrix of `height` rows of `width` cells to its transpose, of `width` rows of `height` cells. The sides need not
+/// fit the buffers, so they are no `Matrix` yet.
 pub fn transpose<T: Copy>(
     input: &[T],
     output: &mut [T],
@@ -40,37 +42,28 @@ pub fn transpose<T: Copy>(
     ensures places { output.new ≡ after_call result (transposed width height input.now) output.old }
     ensures cells { is_ok result ≡ true → Cells width height input.now output.new }
 {
+    // no call tests and makes the matrix at once: its clause would speak of a borrowed value in a result
     test_transpose(width, height, input.len(), output.len())?;
-    transpose_small(input, output, width, height);
+    let matrix = Matrix {
+        cells: input,
+        width,
+        height,
+    };
+    transpose_small(matrix, output);
     Ok(())
 }
 
-/// Copies cell by cell, each column of the input as one run of the output. Inner: both buffers hold the matrix.
-fn transpose_small<T: Copy>(input: &[T], output: &mut [T], width: usize, height: usize)
-    requires input { length input.now ≡ width * height }
-    requires output { length output.old ≡ width * height }
-    ensures places { output.new ≡ transposed width height input.now }
-    ensures cells { Cells width height input.now output.new }
+/// Copies cell by cell, each column of the matrix as one run of the output. Inner: the output holds the matrix. It stays an
+/// argument of its own, since a struct with a `&mut` would have to promise that it keeps the reference.
+#[tactic(auto, using(crate::proofs::Whole::whole_places, crate::proofs::Whole::whole_cells, crate::proofs::Whole::none_places, crate::proofs::Whole::none_cells))]
+pub fn transpose_small<T: Copy>(matrix: Matrix<'_, T>, output: &mut [T])
+    requires output { length output.old ≡ matrix.width * matrix.height }
+    ensures places { output.new ≡ transposed matrix.entry.width matrix.entry.height matrix.entry.cells.now }
+    ensures cells { Cells matrix.entry.width matrix.entry.height matrix.entry.cells.now output.new }
 {
-    for x in 0..width {
-        for y in 0..height {
-            copy_cell(input, output, width, height, x, y);
-        }
+    // columns of no cells are nothing to walk over, and there may be 2^64 - 1 of them
+    if matrix.height == 0 {
+        return;
     }
-}
-
-/// Copies the cell in row `y` and column `x`. Inner: it lies in both buffers.
-fn copy_cell<T: Copy>(
-    input: &[T],
-    output: &mut [T],
-    width: usize,
-    height: usize,
-    x: usize,
-    y: usize,
-)
-    requires input { y * width + x < length input.now }
-    requires output { x * height + y < length output.old }
-    ensures { (d : T) → output.new ≡ slice_set output.old (x * height + y) (slice_index_or input.now (y * width + x) d) }
-{
-    output[x * height + y] = input[y * width + x];
+    transpose_block(matrix, output, matrix.whole());
 }

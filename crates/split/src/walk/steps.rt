@@ -1,61 +1,43 @@
-//! What a walk does. All of it is inner: transposition calls it.
-ghost use Rattle.std.specs.Prelude.{◌≡◌, ℕ, ◌+◌, ◌-◌, ◌*◌, ◌^◌, ◌<◌, ◌≤◌, true, [], ◌∷◌, replicate, MatchOption, slice_set};
-ghost use Rattle.split.specs.Left.{left};
-ghost use Rattle.split.specs.Regions.{Ordered, cols, leaves, rows, sound};
+//! What a walk does: it yields the leaves one after another. Making one is inner: transposition does.
+ghost use Rattle.std.specs.Prelude.{◌≡◌, ◌+◌, ◌*◌, ◌^◌, ◌<◌, ◌≤◌};
+ghost use Rattle.std.specs.Iterator.{item_count};
+ghost use Rattle.split.specs.Left.{NextLeaf, left};
+ghost use Rattle.split.specs.Regions.{Ordered, cols, leaves, rows};
 
 use super::Walk;
-use crate::halve::{halves, is_leaf};
+use crate::halve::halves;
 use crate::region::Region;
+use arrayvec::ArrayVec;
 
 impl<const N: usize> Walk<N> {
-    /// A walk over the leaves of one region. Inner: N places are enough for its cells.
+    /// A walk over the leaves of one region. Inner: N places are enough for its cells, and there is one for the region.
+    #[tactic(auto, using(crate::proofs::Halving::sound_one, crate::proofs::Halving::pending_one))]
     pub fn new(whole: Region) -> Walk<N>
         requires ordered { Ordered whole }
         requires place { 0 < N }
         requires cells { rows whole * cols whole ≤ 2 ^ (N + 8) }
         ensures { left result ≡ leaves whole }
     {
-        Self::waiting_for(whole)
+        let mut waiting = ArrayVec::new();
+        waiting.push(whole);
+        Walk { waiting }
     }
+}
 
-    /// A walk with one region put aside. Inner: there is a place for it and for its halves.
-    fn waiting_for(part: Region) -> Walk<N>
-        requires place { 0 < N }
-        requires sound { sound N part ≡ true }
-        ensures waiting { result.waiting ≡ replicate N part }
-        ensures count { result.count ≡ 1 }
-    {
-        Walk {
-            waiting: [part; N],
-            count: 1,
-        }
-    }
+impl<const N: usize> Iterator for Walk<N> {
+    type Item = Region;
 
-    /// Puts a region aside. Inner: there is a place for it and for its halves.
-    fn put_aside(&mut self, part: Region)
-        requires room { self.old.count < N }
-        requires sound { sound (N - self.old.count) part ≡ true }
-        ensures waiting { self.new.waiting ≡ slice_set self.old.waiting self.old.count part }
-        ensures count { self.new.count ≡ self.old.count + 1 }
-    {
-        self.waiting[self.count] = part;
-        self.count += 1;
-    }
+    ghost next_gives = { NextLeaf };
+
+    ghost remaining = { item_count left };
 
     /// The next leaf, or nothing when all are done.
-    pub fn next(&mut self) -> Option<Region>
-        ensures { MatchOption result
-            ((left self.old ≡ []) × (self.new ≡ self.old))
-            (λ v. left self.old ≡ v ∷ left self.new) }
-    {
-        if self.count == 0 {
-            return None;
-        }
-        self.count -= 1;
-        let mut here = self.waiting[self.count];
-        while !is_leaf(here.row_end - here.row_start, here.col_end - here.col_start) {
+    #[tactic(auto, using(crate::proofs::Halving::walking))]
+    fn next(&mut self) -> Option<Region> {
+        let mut here = self.waiting.pop()?;
+        while !here.is_leaf() {
             let (first, rest) = halves(here);
-            self.put_aside(rest);
+            self.waiting.push(rest);
             here = first;
         }
         Some(here)

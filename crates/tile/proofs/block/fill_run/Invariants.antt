@@ -2,7 +2,7 @@ use Rattle.std.proofs.Common.{◌≡◌, ℕ, ◌+◌, ◌*◌, ◌<◌, length,
 use Rattle.tile.proofs.block.fill_run.Given as goal
 
 -- the cells so far
-abbrev pub invariant-loop-k : goal.invariant-loop-k
-invariant-loop-k g l =
-    ((k : ℕ) (d : g.row.T.Denot) → k < l.k → get_or l.run k d ≡ get_or l.input ((l.y + k) * l.total_cols + l.x) d)
-    × (l.k < length l.run → l.at ≡ (l.y + l.k) * l.total_cols + l.x)
+abbrev pub invariant-loop-cell : goal.invariant-loop-cell
+invariant-loop-cell g l =
+    ((j : ℕ) (d : g.row.T.Denot) → j < l.cell-index → get_or l.run j d ≡ get_or l.matrix.cells.now ((l.y + j) * l.matrix.width + l.x) d)
+    × (l.cell-index < length l.run → l.at ≡ (l.y + l.cell-index) * l.matrix.width + l.x)
