@@ -1,4 +1,5 @@
-//! Pages sent and put in order again, and where their symbols went.
+//! Pages sent and put in order again, and where their symbols went. The buffers of a trip stay three arguments: a struct
+//! of three `&mut` would have to promise that it keeps each, and each has a clause of its own.
 ghost use Rattle.std.specs.Prelude.{◌≡◌, ℕ, ◌<◌, ◌≤◌, map, length, Ok, Err, MatchOption, MatchResult, ◌≢◌, slice_index, slice_index_or};
 ghost use Rattle.demo.specs.Rules.{number_at};
 ghost use Rattle.demo.specs.Trips.{paged, tripped};
@@ -22,8 +23,7 @@ pub fn round_trip<T: Copy>(
     ensures back { back.new ≡ after_call result page.now back.old }
 {
     interleave(name, page, sent)?;
-    deinterleave(name, sent, back)?;
-    Ok(())
+    deinterleave(name, sent, back)
 }
 
 /// How many places from the first on hold the same element in both.
@@ -33,13 +33,7 @@ pub fn unmoved<R: Rule>(a: &[R::Item], b: &[R::Item]) -> usize
     ensures stops { (d : R.Item) → result < length a.now → result < length b.now → slice_index_or a.now result d ≢ slice_index_or b.now result d }
     ensures all { a.now ≡ b.now → result ≡ length a.now }
 {
-    let both = a.len().min(b.len());
-    for k in 0..both {
-        if !R::same(a[k], b[k]) {
-            return k;
-        }
-    }
-    both
+    a.iter().zip(b).take_while(|(x, y)| **x == **y).count()
 }
 
 /// Fills a page by the rule `R`, sends it and takes it back; answers how many elements are where they were.
@@ -66,18 +60,12 @@ pub fn sent_places(name: &str, numbers: &mut [u32], sent: &mut [u32]) -> Result<
     ensures sent { sent.new ≡ after_call result (interleaved name.now (map number_at (same (length numbers.old)))) sent.old }
 {
     fill::<Numbers>(numbers);
-    interleave(name, numbers, sent)?;
-    Ok(())
+    interleave(name, numbers, sent)
 }
 
 /// The first place at which the number `k` stands.
 pub fn place_of(places: &[u32], k: u32) -> Option<usize>
     ensures { MatchOption result ((q : ℕ) → q < length places.now → slice_index places.now q ≢ k) (λ p. (p < length places.now) × (slice_index places.now p ≡ k) × ((q : ℕ) → q < p → slice_index places.now q ≢ k)) }
 {
-    for (q, number) in places.iter().enumerate() {
-        if *number == k {
-            return Some(q);
-        }
-    }
-    None
+    places.iter().position(|number| *number == k)
 }

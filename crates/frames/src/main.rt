@@ -18,11 +18,11 @@ fn show_frame<const N: usize>(rt: &HostRuntime, width: usize, height: usize) -> 
     fill::<Symbols>(&mut input);
     match frame(&input, &mut output, width, height) {
         Ok(counts) => {
-            let announced = counts.announced;
-            let tiled = counts.tiled;
-            let leaf = counts.leaf;
-            println!(rt; "  {announced} tiles were announced")?;
-            println!(rt; "  the plain kernel counted {tiled}, the segmented one {leaf}")
+            println!(rt; "  {} tiles were announced", counts.announced)?;
+            println!(rt;
+                "  the plain kernel counted {}, the segmented one {}",
+                counts.tiled, counts.leaf
+            )
         }
         Err(fault) => println!(rt; "  {fault}"),
     }

@@ -3,9 +3,8 @@
 
 ghost use Rattle.std.specs.Prelude.{◌≤◌};
 
-use demo::rules::{Samples, Symbols};
+use demo::rules::{Rule, Samples, Symbols};
 use demo::trips::{place_of, sent_places, trip, unmoved};
-use fault::Fault;
 use sample::Sample;
 use signal::interleave;
 use std::io;
@@ -20,14 +19,30 @@ fn show_places(rt: &HostRuntime, sent: &[u32]) -> io::Result<()> {
     Ok(())
 }
 
-/// Says how many of `n` elements are where they were after a trip.
-fn show_trip(
+/// Sends the place numbers of a page, and says where the first symbols go.
+fn show_sent(
     rt: &HostRuntime,
-    answer: Result<usize, Fault>,
-    n: usize,
-    what: &str,
+    name: &str,
+    numbers: &mut [u32],
+    sent: &mut [u32],
 ) -> io::Result<()> {
-    match answer {
+    match sent_places(name, numbers, sent) {
+        Ok(()) => show_places(rt, sent),
+        Err(fault) => println!(rt; "  {fault}"),
+    }
+}
+
+/// Carries a page of elements by the rule `R`, and says how many are where they were. The three buffers are those of `trip`.
+fn show_trip<R: Rule>(
+    rt: &HostRuntime,
+    name: &str,
+    what: &str,
+    page: &mut [R::Item],
+    sent: &mut [R::Item],
+    back: &mut [R::Item],
+) -> io::Result<()> {
+    let n = page.len();
+    match trip::<R>(name, page, sent, back) {
         Ok(count) if count == n => println!(rt; "  taken back: all {n} {what} are where they were"),
         Ok(count) => println!(rt;
             "  taken back: only the first {count} {what} are where they were"
@@ -36,35 +51,23 @@ fn show_trip(
     }
 }
 
-/// Carries one page of a signal from beginning to end: its place numbers, then its symbols.
-/// Inner: it makes its own buffers, so a page is no longer than the longest, L1C's.
-fn show_page<const N: usize>(rt: &HostRuntime, name: &str) -> io::Result<()>
+/// Carries one page of a signal from beginning to end: its place numbers, its symbols, then its samples.
+/// Inner: it makes the buffers, so a page is no longer than the longest, L1C's.
+fn show_signal<const N: usize>(rt: &HostRuntime, name: &str) -> io::Result<()>
     requires { N ≤ 1748 }
 {
     println!(rt; "{name}: a page of {N} symbols is interleaved")?;
-    let mut numbers = [0; N];
-    let mut sent = [0; N];
-    match sent_places(name, &mut numbers, &mut sent) {
-        Ok(()) => show_places(rt, &sent)?,
-        Err(fault) => println!(rt; "  {fault}")?,
-    }
-    let mut page = [0; N];
-    let mut sent = [0; N];
-    let mut back = [0; N];
-    let answer = trip::<Symbols>(name, &mut page, &mut sent, &mut back);
-    show_trip(rt, answer, N, "symbols")
-}
-
-/// Carries the same page as samples, with the same bound.
-fn show_samples<const N: usize>(rt: &HostRuntime, name: &str) -> io::Result<()>
-    requires { N ≤ 1748 }
-{
-    let zero = Sample { i: 0, q: 0 };
-    let mut page = [zero; N];
-    let mut sent = [zero; N];
-    let mut back = [zero; N];
-    let answer = trip::<Samples>(name, &mut page, &mut sent, &mut back);
-    show_trip(rt, answer, N, "samples")
+    show_sent(rt, name, &mut [0; N], &mut [0; N])?;
+    show_trip::<Symbols>(rt, name, "symbols", &mut [0; N], &mut [0; N], &mut [0; N])?;
+    let zero = Sample::default();
+    show_trip::<Samples>(
+        rt,
+        name,
+        "samples",
+        &mut [zero; N],
+        &mut [zero; N],
+        &mut [zero; N],
+    )
 }
 
 /// Says in words what becomes of a page of 240 symbols that is to go into 239 places under `name`.
@@ -85,12 +88,9 @@ fn show_refusal(rt: &HostRuntime, name: &str) -> io::Result<()> {
 
 fn main(rt: HostRuntime) -> io::Result<()> {
     println!(rt; "Symbol k of a page is 1 where k has an odd number of one bits, else 0.")?;
-    show_page::<240>(&rt, "I/NAV")?;
-    show_samples::<240>(&rt, "I/NAV")?;
-    show_page::<488>(&rt, "F/NAV")?;
-    show_samples::<488>(&rt, "F/NAV")?;
-    show_page::<1748>(&rt, "L1C")?;
-    show_samples::<1748>(&rt, "L1C")?;
+    show_signal::<240>(&rt, "I/NAV")?;
+    show_signal::<488>(&rt, "F/NAV")?;
+    show_signal::<1748>(&rt, "L1C")?;
     show_refusal(&rt, "i/nav")?;
     show_refusal(&rt, "I/NAV")
 }

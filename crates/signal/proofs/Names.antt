@@ -1,5 +1,5 @@
 -- Which texts have a shape.
-use Rattle.std.proofs.Common.{◌≡◌, ℕ, false, ◌⊎◌, List, codes, Option, sym, ap, ◌∙◌, inl, inr, ⊎_elim}
+use Rattle.std.proofs.Common.{◌≡◌, ℕ, false, ◌⊎◌, List, codes, Option, sym, ap, ◌∙◌, inl, inr, ⊎_elim, arith}
 use Rattle.std.specs.Str.{bytes_eq}
 use Rattle.std.proofs.lemmas.Slice.Eq.{bytes_eq-Decides}
 use Rattle.std.proofs.lemmas.Bool.{cases_Bool, cond-false, both_ways}
@@ -8,7 +8,7 @@ use Rattle.signal.specs.Pages.{Shaped, shape_of}
 use Rattle.signal.specs.Laws.{Shapes}
 
 differ : (xs ys : List ℕ) → (xs ≡ ys → ⊥) → bytes_eq xs ys ≡ false
-differ xs ys n = ⊎_elim (λ t. absurd (n ((bytes_eq-Decides xs ys).0 t))) (λ f. f) (cases_Bool (bytes_eq xs ys))
+differ xs ys n = grind (arith, bytes_eq-Decides)
 
 named : (xs ys : List ℕ) → (xs ≡ ys) ⊎ (xs ≡ ys → ⊥)
 named xs ys = ⊎_elim

@@ -1,5 +1,5 @@
 -- A page that is moved by a shape, and by that shape with its sides exchanged.
-use Rattle.std.proofs.Common.{◌≡◌, ℕ, ◌+◌, ◌*◌, true, List, length, get_or, is_ok, Some, None, Ok, Err, Option, sym, refl, ap, ◌∙◌, subst, mul_comm, arith}
+use Rattle.std.proofs.Common.{◌≡◌, ℕ, ◌+◌, ◌*◌, true, List, length, get_or, is_ok, Some, None, Ok, Err, Option, sym, refl, ap, ◌∙◌, subst, mul_comm}
 use Rattle.fault.specs.Tests.{Answer, after_call}
 use Rattle.fault.proofs.Left.{left_accepted}
 use Rattle.places.proofs.Turned.{transposed_twice, transposed_cells}
@@ -12,10 +12,6 @@ use Rattle.signal.specs.Laws.{Restored}
 abbrev Long : Option Shape → ℕ → Type 0
 Long None n = ⊥
 Long (Some s) n = n ≡ s.width * s.height
-
-pub fits_flipped : (o : Option Shape) (i n : ℕ) → fits (flipped o) i n ≡ fits o i n
-fits_flipped None i n = refl
-fits_flipped (Some s) i n = transposable_flipped s.width s.height i n
 
 pub symbols_flipped : {X : Type 0} (o : Option Shape) (a b : List X) → Symbols (flipped o) a b → Symbols o b a
 symbols_flipped o a b h s e x y d p q = sym (h (sides s.height s.width) (ap flipped e) y x d q p)
@@ -47,8 +43,8 @@ restored = record {
 
 -- an accepted page has its length
 long_accepted : (o : Option Shape) (r : Answer) (i n : ℕ) → r ≡ fits o i n → is_ok r ≡ true → Long o i
-long_accepted None r i n e ok = absurd (let z : ◌≡◌ {A = ℕ} 0 1 = cc in omega arith)
-long_accepted (Some s) (Err f) i n e ok = absurd (let z : ◌≡◌ {A = ℕ} 0 1 = cc in omega arith)
+long_accepted None r i n e ok = cc
+long_accepted (Some s) (Err f) i n e ok = cc
 long_accepted (Some s) (Ok u) i n e ok = (fitting s.width s.height i n e).input
 
 symbols_moved : {X : Type 0} (o : Option Shape) (xs : List X) → Long o (length xs) → Symbols o xs (moved o xs)
@@ -79,3 +75,6 @@ module _ {X : Type 0} (o : Option Shape) (r : Answer) (old new found : List X) (
   page_ordered p e page m f =
       let long : Long p (length page) = subst (λ q. Long q (length page)) (ap flipped e ∙ flipped-flipped p) (long_flipped o (length page) (subst (Long o) (sym m) page_long)) in
       page_moved ∙ ap (λ q. moved q old) e ∙ ap (moved (flipped p)) f ∙ there_back p page long
+
+-- what a call by name adds to the move of its page, either way
+pub ruleset page_rules = (transposable_flipped, symbols_flipped, page_symbols, page_restored, page_ordered)

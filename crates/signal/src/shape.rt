@@ -15,4 +15,11 @@ impl Shape {
     {
         Shape { width, height }
     }
+
+    /// The same page read the other way: its sides exchanged.
+    pub fn flipped(self) -> Shape
+        ensures { result ≡ record { width = self.height; height = self.width } }
+    {
+        Shape::new(self.height, self.width)
+    }
 }
