@@ -7,3 +7,5 @@ mod faults;
 mod matrices;
 #[cfg(test)]
 mod pages;
+#[cfg(test)]
+mod rules;

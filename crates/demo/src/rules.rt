@@ -1,16 +1,15 @@
 //! Pages made by a stated rule, so that a reader can check each symbol.
 //! `as` takes only a number that fits the type, so each place is reduced to one that does; a `TryFrom` would add a failure
 //! that cannot come.
-ghost use Rattle.std.specs.Prelude.{◌≡◌, ℕ, ◌↔◌, map, length, IsTrue};
+ghost use Rattle.std.specs.Prelude.{◌≡◌, ℕ, map, length, Decides};
 ghost use Rattle.demo.specs.Rules.{number_at, sample_at, symbol_at};
 ghost use Rattle.places.specs.Places.{same};
-ghost use Rattle.std.proofs.Common.{rules};
 
 use sample::Sample;
 
 /// What stands at each place of a page.
 pub trait Rule {
-    type Item: Copy + PartialEq;
+    type Item: Copy;
 
     ghost at: { ℕ → Self.Item };
 
@@ -18,8 +17,10 @@ pub trait Rule {
     fn item(k: usize) -> Self::Item
         ensures { result ≡ at k };
 
-    /// `==` decides whether two elements are the same.
-    ghost decides: { (a b : Self.Item) → IsTrue (Self.Item.eq a b) ↔ (a ≡ b) };
+    /// Whether two elements are the same. A rule says so itself: elements need have no `==`, and where they have one it
+    /// may take different elements for equal.
+    fn same(a: Self::Item, b: Self::Item) -> bool
+        ensures { Decides result (a ≡ b) };
 }
 
 /// 8-bit symbols: 1 where the place has an odd number of one bits, else 0.
@@ -30,10 +31,12 @@ impl Rule for Symbols {
 
     ghost at = { symbol_at };
 
-    ghost decides = { Prim.search rules };
-
     fn item(k: usize) -> u8 {
         (k.count_ones() % 2) as u8
+    }
+
+    fn same(a: u8, b: u8) -> bool {
+        a == b
     }
 }
 
@@ -45,10 +48,12 @@ impl Rule for Numbers {
 
     ghost at = { number_at };
 
-    ghost decides = { Prim.search rules };
-
     fn item(k: usize) -> u32 {
         (k % 4294967296) as u32
+    }
+
+    fn same(a: u32, b: u32) -> bool {
+        a == b
     }
 }
 
@@ -60,13 +65,15 @@ impl Rule for Samples {
 
     ghost at = { sample_at };
 
-    ghost decides = { Prim.search rules };
-
     fn item(k: usize) -> Sample {
         Sample {
             i: (k % 128) as i16 - 64,
             q: (k / 128 % 128) as i16 - 64,
         }
+    }
+
+    fn same(a: Sample, b: Sample) -> bool {
+        a == b
     }
 }
 
