@@ -34,3 +34,21 @@ fn words(rt: HostRuntime) -> Result<(), Fail> {
     );
     Ok(())
 }
+
+/// The text names what a fault says, whatever fields hold it.
+#[test]
+fn debug(rt: HostRuntime) -> Result<(), Fail> {
+    let fault = Fault::in_step(4, 2, Fault::new(Refusal::InputLength));
+    let text = format!(in rt.alloc(); "{fault:?}")?;
+    assert_eq!(rt;
+        text.as_str(),
+        "Fault { refusal: StepRefused, record: 4, step: 2, cause: Some(InputLength) }"
+    );
+    let fault = Fault::at_record(Refusal::NoRecord, 7);
+    let text = format!(in rt.alloc(); "{fault:?}")?;
+    assert_eq!(rt;
+        text.as_str(),
+        "Fault { refusal: NoRecord, record: 7, step: 0, cause: None }"
+    );
+    Ok(())
+}

@@ -4,7 +4,7 @@
 ghost use Rattle.fault.specs.Laws.{InOrder, Made, Numbered};
 ghost use Rattle.fault.specs.Makers.{at_record, in_step, of_record, plain};
 ghost use Rattle.fault.specs.Numbers.{layer_of, layer_number, number_of, numbers};
-ghost use Rattle.std.specs.Prelude.{◌≡◌};
+ghost use Rattle.std.specs.Prelude.{◌≡◌, ◌==◌};
 
 mod words;
 
@@ -53,6 +53,13 @@ impl Refusal {
         ensures { result ≡ number_of self }
     {
         self as u8
+    }
+
+    /// Whether two refusals have the same number. It answers by `==`, which is derived and has no clause of its own.
+    pub fn same_number(self, other: Refusal) -> bool
+        ensures { result ≡ (number_of self == number_of other) }
+    {
+        self == other
     }
 
     /// Who declines for this reason.
@@ -105,14 +112,14 @@ enum Layer {
 }
 
 /// The step of a plan that was declined, and the refusal for which it was.
-#[derive(Clone, Copy, PartialEq, Eq, Debug)]
+#[derive(Clone, Copy, PartialEq, Eq)]
 struct DeclinedStep {
     step: u32,
     cause: Refusal,
 }
 
 /// A refusal with the record and the step of the plan that it names, and what was declined below it.
-#[derive(Clone, Copy, PartialEq, Eq, Debug)]
+#[derive(Clone, Copy, PartialEq, Eq)]
 pub struct Fault {
     refusal: Refusal,
     // 0 for none: the five numbers say all of a fault (the law `Numbered`), and could not tell `None` from `Some(0)`.

@@ -69,4 +69,16 @@ impl fmt::Display for Fault {
     }
 }
 
+// Written out: a derived one would show how step and cause are held, and its text would change with that.
+impl fmt::Debug for Fault {
+    fn fmt<W: fmt::Write>(&self, f: &mut fmt::Formatter<W>) -> fmt::Result {
+        f.debug_struct("Fault")
+            .field("refusal", &self.refusal)
+            .field("record", &self.record)
+            .field("step", &self.step())
+            .field("cause", &self.below.map(|below| below.cause))
+            .finish()
+    }
+}
+
 impl Error for Fault {}
