@@ -10,7 +10,7 @@ mod plain;
 mod segmented;
 mod tally;
 
-pub use block::transpose_block;
+pub use block::{Indexed, RunFill, Stepped, transpose_block, transpose_runs};
 pub use counting::{Kernel, TileCopy};
 pub use kernel::{TileKernel, test_tile};
 pub use plain::{Plain, Whole};

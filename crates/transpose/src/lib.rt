@@ -8,7 +8,7 @@ ghost use Rattle.transpose.specs.Answers.{transposable};
 
 use fault::{Fault, Refusal};
 use matrix::Matrix;
-use tile::transpose_block;
+use tile::{Indexed, RunFill, Stepped, transpose_runs};
 
 /// What `transpose` answers for buffers of these lengths; it moves nothing. Any four numbers may be asked, so they come one
 /// by one.
@@ -49,14 +49,24 @@ pub fn transpose<T: Copy>(
         width,
         height,
     };
-    transpose_small(matrix, output);
+    transpose_whole::<Indexed, T>(matrix, output);
     Ok(())
 }
 
-/// Copies cell by cell, each column of the matrix as one run of the output. Inner: the output holds the matrix. It stays an
-/// argument of its own, since a struct with a `&mut` would have to promise that it keeps the reference.
-#[tactic(auto, using(crate::proofs::Whole::whole_places, crate::proofs::Whole::whole_cells, crate::proofs::Whole::none_places, crate::proofs::Whole::none_cells))]
+/// Copies cell by cell, each column of the matrix as one run of the output, stepping along it: for matrices that are too
+/// small for tiles. Inner: the output holds the matrix.
 pub fn transpose_small<T: Copy>(matrix: Matrix<'_, T>, output: &mut [T])
+    requires output { length output.old ≡ matrix.width * matrix.height }
+    ensures places { output.new ≡ transposed matrix.entry.width matrix.entry.height matrix.entry.cells.now }
+    ensures cells { Cells matrix.entry.width matrix.entry.height matrix.entry.cells.now output.new }
+{
+    transpose_whole::<Stepped, T>(matrix, output);
+}
+
+/// Copies cell by cell, each column of the matrix as one run of the output, filled as `F` does. Inner: the output holds the
+/// matrix. It stays an argument of its own, since a struct with a `&mut` would have to promise that it keeps the reference.
+#[tactic(auto, using(crate::proofs::Whole::whole_places, crate::proofs::Whole::whole_cells, crate::proofs::Whole::none_places, crate::proofs::Whole::none_cells))]
+fn transpose_whole<F: RunFill, T: Copy>(matrix: Matrix<'_, T>, output: &mut [T])
     requires output { length output.old ≡ matrix.width * matrix.height }
     ensures places { output.new ≡ transposed matrix.entry.width matrix.entry.height matrix.entry.cells.now }
     ensures cells { Cells matrix.entry.width matrix.entry.height matrix.entry.cells.now output.new }
@@ -65,5 +75,5 @@ pub fn transpose_small<T: Copy>(matrix: Matrix<'_, T>, output: &mut [T])
     if matrix.height == 0 {
         return;
     }
-    transpose_block(matrix, output, matrix.whole());
+    transpose_runs::<F, T>(matrix, output, matrix.whole());
 }

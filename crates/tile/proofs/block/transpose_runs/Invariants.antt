@@ -1,6 +1,6 @@
 use Rattle.std.proofs.Common.{◌≡◌}
 use Rattle.tile.specs.Blocks.{pasted}
-use Rattle.tile.proofs.block.transpose_block.Given as goal
+use Rattle.tile.proofs.block.transpose_runs.Given as goal
 
 -- the columns so far
 abbrev pub invariant-loop-inner_x : goal.invariant-loop-inner_x

@@ -2,7 +2,7 @@ use Rattle.std.proofs.Common.{◌+◌, ◌^◌, ◌<◌, length, get_or, ap, ◌
 use Rattle.std.proofs.lemmas.List.{get_or-set_same, get_or-set_other, get_or_default}
 use Rattle.std.proofs.lemmas.Bool.{cases_eq}
 use Rattle.tile.proofs.Runs.{in_column}
-use Rattle.tile.proofs.block.fill_run.Goals as goal
+use Rattle.tile.proofs.block.SteppedRunFill.fill_run.Goals as goal
 
 pub offset_bounds-matrix-at : goal.offset_bounds-matrix-at
 offset_bounds-matrix-at g c =

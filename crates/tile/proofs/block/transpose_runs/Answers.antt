@@ -1,7 +1,7 @@
 use Rattle.std.proofs.Common.{sym, arith, rules}
 use Rattle.tile.proofs.Pasted.{no_column}
 use Rattle.tile.proofs.Runs.{run_ends, run_long, rows_in, column_more}
-use Rattle.tile.proofs.block.transpose_block.Goals as goal
+use Rattle.tile.proofs.block.transpose_runs.Goals as goal
 
 pub loop-inner_x-init : goal.loop-inner_x-init
 loop-inner_x-init g c =

@@ -1,5 +1,5 @@
 use Rattle.std.proofs.Common.{◌≡◌, ℕ, ◌+◌, ◌*◌, ◌<◌, length, get_or}
-use Rattle.tile.proofs.block.fill_run.Given as goal
+use Rattle.tile.proofs.block.SteppedRunFill.fill_run.Given as goal
 
 -- the cells so far
 abbrev pub invariant-loop-cell : goal.invariant-loop-cell
